@@ -189,16 +189,11 @@ where
         .open(files, name.text());
     match file {
         Ok(file) => Ok(Some(OpenedFile::of(file, name)?)),
-        Err(error) => none_where_absent(name, error),
+        Err(error) => match error.kind() {
+            ErrorKind::NotFound => Ok(None),
+            _ => Err(Reason::System { name, error }),
+        },
     }
-}
-
-/// None, where the error is that nothing has the name.
-pub fn none_where_absent<T>(name: Name, error: io::Error) -> Result<Option<T>, Reason> {
-    if error.kind() == ErrorKind::NotFound {
-        return Ok(None);
-    }
-    Err(Reason::System { name, error })
 }
 
 // What came of opening the file of a name.

@@ -1,7 +1,5 @@
 //! The files `nv` and `register`.
 
-ghost use Rattle.std.specs.Prelude.{◌≤◌};
-
 use crate::disk::{OpenedFile, open_or_make};
 use crate::kept::KeptFile;
 use crate::lock::Lock;
@@ -55,7 +53,7 @@ where
 
     // Opens the folder and locks it. After an error nothing stays open.
     fn open_folder(&mut self, files: &R) -> Result<(), Reason> {
-        let folder = current(files)?;
+        let folder = named(Name::Here, fs::open(files, "."))?;
         let outcome = self.settle_in(files, &folder);
         self.lock = Some(folder);
         if outcome.is_err() {
@@ -104,7 +102,7 @@ where
     // Reads `nv`.
     fn read_nv(&mut self, files: &R) -> Result<[u8; WHOLE], Reason> {
         self.enter(files)?;
-        match self.nv.look(files)? {
+        match self.nv.take(files, true)? {
             Some(opened) => self.bytes_of(files, opened),
             None => Ok([0; WHOLE]),
         }
@@ -124,7 +122,9 @@ where
     fn bytes_in(&self, files: &R, opened: &mut OpenedFile<R::File>) -> Result<[u8; WHOLE], Reason> {
         let size = opened.size_within(WHOLE as u64)?;
         self.settle(files, opened)?;
-        front_of(opened, size as usize)
+        let mut bytes = [0; WHOLE];
+        opened.read(0, &mut bytes[..size as usize])?;
+        Ok(bytes)
     }
 
     /// Writes these bytes of `nv` from `at` on, in place.
@@ -149,10 +149,11 @@ where
         self.settle(files, opened)
     }
 
-    /// The register's value, zero where the file is absent.
-    pub fn register(&mut self, files: &R) -> Result<Digest, Reason> {
+    /// The register's value, zero where the file is absent. An open file is looked at where that is
+    /// asked for.
+    pub fn register(&mut self, files: &R, is_looked_at: bool) -> Result<Digest, Reason> {
         self.enter(files)?;
-        match self.register.look(files)? {
+        match self.register.take(files, is_looked_at)? {
             Some(opened) => self.value_of(files, opened),
             None => Ok(zero()),
         }
@@ -197,17 +198,8 @@ where
 
     /// Extends the register by a value. The file isn't looked at for that where it is open.
     pub fn extend_register(&mut self, files: &R, value: &Digest) -> Result<(), Reason> {
-        let old = self.old_register(files)?;
+        let old = self.register(files, false)?;
         self.put_register(files, &extended(&old, value))
-    }
-
-    // The register's value, of the file as it is open.
-    fn old_register(&mut self, files: &R) -> Result<Digest, Reason> {
-        self.enter(files)?;
-        match self.register.take(files)? {
-            Some(opened) => self.value_of(files, opened),
-            None => Ok(zero()),
-        }
     }
 
     // Lets a file's bytes and its name be on the disk, where this program didn't yet.
@@ -231,27 +223,16 @@ where
     }
 }
 
-// The current directory, opened.
-fn current<R: Files>(files: &R) -> Result<R::File, Reason> {
-    named(Name::Here, fs::open(files, "."))
-}
-
 // What came of the try to lock the current directory.
 fn locked(outcome: io::Result<()>) -> Result<(), Reason> {
     match outcome {
-        Err(error) if error.kind() == ErrorKind::WouldBlock => Err(Reason::InUse),
-        outcome => named(Name::Here, outcome),
+        Ok(()) => Ok(()),
+        Err(error) => match error.kind() {
+            ErrorKind::WouldBlock => Err(Reason::InUse),
+            _ => Err(Reason::System {
+                name: Name::Here,
+                error,
+            }),
+        },
     }
-}
-
-// The first bytes of a file, as many as it has, and zeros behind them.
-fn front_of<F: OpenFile + FileExt + Drop>(
-    opened: &OpenedFile<F>,
-    size: usize,
-) -> Result<[u8; WHOLE], Reason>
-    requires { size ≤ 209 }
-{
-    let mut bytes = [0; WHOLE];
-    opened.read(0, &mut bytes[..size])?;
-    Ok(bytes)
 }

@@ -33,12 +33,6 @@ where
         }
     }
 
-    /// Takes the file, looked at. None where it is absent.
-    pub fn look(&mut self, files: &R) -> Result<Option<OpenedFile<R::File>>, Reason> {
-        self.look_again(files);
-        self.take(files)
-    }
-
     /// Takes the file, looked at. Where it is absent an empty one is made.
     pub fn look_or_make(&mut self, files: &R) -> Result<OpenedFile<R::File>, Reason> {
         self.look_again(files);
@@ -48,17 +42,19 @@ where
         }
     }
 
-    /// Takes the file as it is open, or else looked at. None where it is absent.
-    pub fn take(&mut self, files: &R) -> Result<Option<OpenedFile<R::File>>, Reason> {
+    /// Takes the file as it is open, looked at where that is asked for. None where it is absent.
+    pub fn take(
+        &mut self,
+        files: &R,
+        is_looked_at: bool,
+    ) -> Result<Option<OpenedFile<R::File>>, Reason> {
+        if is_looked_at {
+            self.look_again(files);
+        }
         match self.opened.take() {
             Some(opened) => Ok(Some(opened)),
             None => open_there(files, self.name),
         }
-    }
-
-    /// Keeps a file open as that of the name.
-    pub fn keep(&mut self, opened: OpenedFile<R::File>) {
-        self.opened = Some(opened);
     }
 
     /// Keeps a file open where what was done to it succeeded, and closes it otherwise.
@@ -67,9 +63,9 @@ where
         opened: OpenedFile<R::File>,
         outcome: Result<T, Reason>,
     ) -> Result<T, Reason> {
-        self.keep(opened);
+        self.opened = Some(opened);
         if outcome.is_err() {
-            self.close();
+            self.opened = None;
         }
         outcome
     }
@@ -81,16 +77,13 @@ where
 
     /// Opens the file, and lets its bytes be on the disk. Nothing is done where it is absent.
     pub fn open_synced(&mut self, files: &R) -> Result<(), Reason> {
-        match self.take(files)? {
-            Some(opened) => self.keep_synced(opened),
+        match self.take(files, false)? {
+            Some(mut opened) => {
+                let outcome = opened.sync();
+                self.keep_after(opened, outcome)
+            }
             None => Ok(()),
         }
-    }
-
-    // Lets a file's bytes be on the disk, and keeps it open.
-    fn keep_synced(&mut self, mut opened: OpenedFile<R::File>) -> Result<(), Reason> {
-        let outcome = opened.sync();
-        self.keep_after(opened, outcome)
     }
 
     /// Takes it that the name of the file that is open is on the disk.

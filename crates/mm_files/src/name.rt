@@ -3,7 +3,7 @@
 use std::fmt::{self, Display};
 
 /// What a call is on: a file of the current directory, or what else is read and written.
-#[derive(Clone, Copy, Debug, PartialEq, Eq)]
+#[derive(Clone, Copy, PartialEq, Eq)]
 pub enum Name {
     /// The current directory itself.
     Here,

@@ -1,6 +1,6 @@
 //! Where the file of a slot itself stands, behind links, and whether it is one of its own.
 
-use crate::disk::{Identity, OpenedFile, make, none_where_absent};
+use crate::disk::{Identity, OpenedFile, make};
 use crate::name::Name;
 use crate::reason::{Reason, named};
 use mm_base::Memory;
@@ -44,20 +44,15 @@ impl FilePlace {
                 path,
                 failed: None,
             }),
-            Err(error) => FilePlace::unknown(alloc, name, error),
+            Err(error) => match error.kind() {
+                ErrorKind::OutOfMemory => Err(Memory),
+                _ => Ok(FilePlace {
+                    name,
+                    path: PathBuf::new(alloc),
+                    failed: Some(Reason::System { name, error }),
+                }),
+            },
         }
-    }
-
-    // That of this name, whose links couldn't be followed.
-    fn unknown(alloc: Global, name: Name, error: io::Error) -> Result<FilePlace, Memory> {
-        if error.kind() == ErrorKind::OutOfMemory {
-            return Err(Memory);
-        }
-        Ok(FilePlace {
-            name,
-            path: PathBuf::new(alloc),
-            failed: Some(Reason::System { name, error }),
-        })
     }
 
     // An error where it isn't known.
@@ -80,27 +75,14 @@ impl FilePlace {
     /// a link leads there the link's name is, too.
     pub fn sync_name<R: Files>(&self, files: &R) -> Result<(), Reason> {
         self.known()?;
-        self.sync_own(files)?;
-        self.sync_link(files)
-    }
-
-    // Lets the name of the file itself be on the disk.
-    fn sync_own<R: Files>(&self, files: &R) -> Result<(), Reason> {
-        match sync_folder(files, self.folder()) {
-            Ok(()) => Ok(()),
-            Err(error) => Err(Reason::Folder {
-                name: self.name,
-                error,
-            }),
+        let name = self.name;
+        if let Err(error) = sync_folder(files, self.folder()) {
+            return Err(Reason::Folder { name, error });
         }
-    }
-
-    // Lets the name of the link that leads there be on the disk, where there is one.
-    fn sync_link<R: Files>(&self, files: &R) -> Result<(), Reason> {
-        if self.path.as_str() == self.name.text() {
-            return Ok(());
+        if self.path.as_str() != name.text() {
+            return named(Name::Here, sync_folder(files, "."));
         }
-        named(Name::Here, sync_folder(files, "."))
+        Ok(())
     }
 
     /// Makes the file, which is absent. An error where the place is that of another of the
@@ -110,20 +92,13 @@ impl FilePlace {
         R::File: FileExt,
     {
         self.known()?;
-        self.refuse_taken(files)?;
-        make(files, self.name, self.path.as_str())
-    }
-
-    // An error where the place is that of another of the program's files.
-    fn refuse_taken<R: Files>(&self, files: &R) -> Result<(), Reason> {
-        let Some(other) = self.other_name() else {
-            return Ok(());
-        };
         let name = self.name;
-        if named(name, is_current(files, self.folder()))? {
+        if let Some(other) = self.other_name()
+            && named(name, is_current(files, self.folder()))?
+        {
             return Err(Reason::Same { name, other });
         }
-        Ok(())
+        make(files, name, self.path.as_str())
     }
 
     // Which of the other files has the name that the path ends in.
@@ -138,11 +113,6 @@ impl FilePlace {
     }
 }
 
-// Whether nothing is at a path, or no link.
-fn is_no_link(error: &io::Error) -> bool {
-    matches!(error.kind(), ErrorKind::NotFound | ErrorKind::InvalidInput)
-}
-
 // The path to which the links of a name lead. It is the name where it is no link.
 fn path_behind<R: Files>(alloc: Global, files: &R, name: &str) -> io::Result<PathBuf> {
     let mut path = PathBuf::from_str(alloc, name)?;
@@ -152,8 +122,11 @@ fn path_behind<R: Files>(alloc: Global, files: &R, name: &str) -> io::Result<Pat
                 let _ = path.pop();
                 path.push(target)?;
             }
-            Err(error) if is_no_link(&error) => return Ok(path),
-            Err(error) => return Err(error),
+            Err(error) => match error.kind() {
+                // Nothing is there, or no link.
+                ErrorKind::NotFound | ErrorKind::InvalidInput => return Ok(path),
+                _ => return Err(error),
+            },
         }
     }
     Err(io::Error::from(ErrorKind::FilesystemLoop))
@@ -166,16 +139,9 @@ pub fn sync_folder<R: Files>(files: &R, path: &str) -> io::Result<()> {
 
 // Whether a folder is the current directory.
 fn is_current<R: Files>(files: &R, path: &str) -> io::Result<bool> {
-    let folder = identity_at(files, path)?;
-    Ok(folder == identity_at(files, ".")?)
-}
-
-// Which file or folder a path leads to.
-fn identity_at<R: Files>(files: &R, path: &str) -> io::Result<Identity> {
-    match fs::metadata(files, path) {
-        Ok(there) => Ok(Identity::of(&there)),
-        Err(error) => Err(error),
-    }
+    let folder = fs::metadata(files, path)?;
+    let current = fs::metadata(files, ".")?;
+    Ok(Identity::of(&folder) == Identity::of(&current))
 }
 
 /// A slot's file. An error where it is another of the program's files, by its name.
@@ -184,33 +150,21 @@ where
     R::File: FileExt,
 {
     for other in NAMES {
-        refuse_at(files, opened.name, opened.identity, other)?;
-    }
-    Ok(())
-}
-
-// An error where another of these names leads to the file of a name.
-fn refuse_at<R: Files>(
-    files: &R,
-    name: Name,
-    identity: Identity,
-    other: Name,
-) -> Result<(), Reason> {
-    if other != name && is_at(files, other, identity)? {
-        return Err(Reason::Same { name, other });
+        if other != opened.name && is_at(files, other, opened.identity)? {
+            let name = opened.name;
+            return Err(Reason::Same { name, other });
+        }
     }
     Ok(())
 }
 
 // Whether a name leads to this file.
 fn is_at<R: Files>(files: &R, name: Name, identity: Identity) -> Result<bool, Reason> {
-    Ok(identity_of(files, name)? == Some(identity))
-}
-
-// Which file or folder a name leads to. None where it is absent.
-fn identity_of<R: Files>(files: &R, name: Name) -> Result<Option<Identity>, Reason> {
-    match identity_at(files, name.text()) {
-        Ok(there) => Ok(Some(there)),
-        Err(error) => none_where_absent(name, error),
+    match fs::metadata(files, name.text()) {
+        Ok(there) => Ok(Identity::of(&there) == identity),
+        Err(error) => match error.kind() {
+            ErrorKind::NotFound => Ok(false),
+            _ => Err(Reason::System { name, error }),
+        },
     }
 }

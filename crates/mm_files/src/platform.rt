@@ -119,7 +119,7 @@ where
 
     fn reg_read(&mut self) -> Result<Digest, StepFault> {
         self.steps = self.steps.saturating_add(1);
-        let outcome = self.folder.register(self.files);
+        let outcome = self.folder.register(self.files, true);
         told(&mut self.faults, &mut self.last, outcome)
     }
 

@@ -4,11 +4,12 @@ ghost use Rattle.std.specs.Prelude.{◌≡◌, Ok, Err, MatchResult};
 ghost use Rattle.mm_files.specs.declared.reason.Reason.TheVariants.{System};
 
 use crate::name::Name;
+use std::fmt::{self, Debug, Display};
 use std::io;
 use thiserror::Error;
 
 /// Why a call on a file failed, in words for people.
-#[derive(Clone, Copy, Debug, Error)]
+#[derive(Clone, Copy, Error)]
 pub enum Reason {
     /// What the system says of the file.
     #[error("{name}: {error}")]
@@ -31,6 +32,12 @@ pub enum Reason {
     /// It is longer than it may be.
     #[error("{name} has {size} bytes, more than {most}")]
     Long { name: Name, size: u64, most: u64 },
+}
+
+impl Debug for Reason {
+    fn fmt<W: fmt::Write>(&self, f: &mut fmt::Formatter<W>) -> fmt::Result {
+        Display::fmt(self, f)
+    }
 }
 
 /// An outcome whose error is what the system says of the file of this name.

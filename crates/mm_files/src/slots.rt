@@ -119,17 +119,9 @@ where
 
     // Takes the file, looked at for the first page. None where it is absent.
     fn find(&mut self, files: &R, page: u16) -> Result<Option<OpenedFile<R::File>>, Reason> {
-        match self.found(files, page)? {
+        match self.kept.take(files, page == 0)? {
             Some(opened) => Ok(Some(self.alone(files, opened)?)),
             None => Ok(None),
-        }
-    }
-
-    // Takes the file, looked at for the first page, whether it is another of the program's or not.
-    fn found(&mut self, files: &R, page: u16) -> Result<Option<OpenedFile<R::File>>, Reason> {
-        match page {
-            0 => self.kept.look(files),
-            _ => self.kept.take(files),
         }
     }
 
@@ -137,13 +129,8 @@ where
     fn find_or_make(&mut self, files: &R, page: u16) -> Result<OpenedFile<R::File>, Reason> {
         match self.find(files, page)? {
             Some(opened) => Ok(opened),
-            None => self.made(files),
+            None => self.alone(files, self.place.make(files)?),
         }
-    }
-
-    // Makes the file, which is absent.
-    fn made(&self, files: &R) -> Result<OpenedFile<R::File>, Reason> {
-        self.alone(files, self.place.make(files)?)
     }
 
     // The file, where it is none of the program's others.

@@ -47,8 +47,12 @@ impl<'a, R: Files> FileSource<'a, R> {
     // Opens the file, which may be one that can't be written. A FIFO isn't opened, since that would
     // wait.
     fn open(&self) -> Result<R::File, Reason> {
-        refuse_fifo(self.files, self.name)?;
-        named(self.name, fs::open(self.files, self.name.text()))
+        let name = self.name;
+        let there = named(name, fs::metadata(self.files, name.text()))?;
+        if there.file_type().is_fifo() {
+            return Err(Reason::NoFile { name });
+        }
+        named(name, fs::open(self.files, name.text()))
     }
 
     // Reads the next bytes.
@@ -74,25 +78,5 @@ impl<'a, R: Files> FileSource<'a, R> {
             self.file = None;
         }
         outcome
-    }
-}
-
-// An error where a FIFO has the name.
-fn refuse_fifo<R: Files>(files: &R, name: Name) -> Result<(), Reason> {
-    let there = named(name, fs::metadata(files, name.text()))?;
-    if there.file_type().is_fifo() {
-        return Err(Reason::NoFile { name });
-    }
-    Ok(())
-}
-
-impl<R: Files> Source for FileSource<'_, R> {
-    ghost left = { λ _. None };
-
-    ghost faults = { λ source. source.faults };
-
-    fn take(&mut self, buf: &mut [u8]) -> Result<usize, Failed> {
-        let outcome = self.read(buf);
-        counted(&mut self.faults, &mut self.last, outcome)
     }
 }
