@@ -17,8 +17,8 @@ which_of First = both.First
 which_of Second = both.Second
 
 abbrev pub command_of : Command → moves.MoveCommand
-command_of (Invite nonce) = moves.Invite nonce
-command_of (Retire nonce offer) = moves.Retire nonce offer
+command_of (Invite nonce) = moves.Invite nonce.bytes
+command_of (Retire nonce offer) = moves.Retire nonce.bytes offer
 command_of (Accept offer) = moves.Accept offer
 
 abbrev pub act_of : SideAct → folds.BothAct

@@ -10,8 +10,8 @@ use Rattle.mm_transfer.specs.Events.{which_of}
 
 -- the command that stands in a line
 abbrev pub command_in : CommandText → MoveCommand
-command_in (command.Invite nonce) = Invite nonce
-command_in (command.Retire nonce from) = Retire nonce (offer_of from)
+command_in (command.Invite nonce) = Invite nonce.bytes
+command_in (command.Retire nonce from) = Retire nonce.bytes (offer_of from)
 command_in (command.Accept from) = Accept (offer_of from)
 
 -- what happens on a side, by its line

@@ -20,6 +20,7 @@ ghost use Rattle.mm_transfer.specs.Pairs.{pair_of};
 use crate::between::{IssuedTickets, either};
 use crate::event::{Command, SideChoice};
 use crate::moving::{Mover, has_moved, planned_accept, planned_invite, planned_retire, refused};
+use crate::nonce::Nonce;
 use crate::reply::MoveReply;
 use crate::side::Side;
 use mm_base::{Bytes, CELL_LENGTH, Memory};
@@ -99,13 +100,13 @@ fn invited(stop: Stop, came: Result<Invited, MoveRefusal>) -> Result<MoveReply, 
 fn invite(
     which: SideChoice,
     here: &mut Side,
-    nonce: &[u8; 32],
+    nonce: &Nonce,
     course: &CallPlan<'_>,
 ) -> Result<MoveReply, Memory>
     ensures made { (between : IssuedTickets)
         → CommandGoes (pair_of here.old.seat.header) (which_of which)
-        course.now.meddles.now course.now.stop (Invite nonce.now) (command_reach here.old between)
-        (command_reach here.new between) result }
+        course.now.meddles.now course.now.stop (Invite nonce.now.bytes)
+        (command_reach here.old between) (command_reach here.new between) result }
     ensures headed { here.new.seat.header ≡ here.old.seat.header }
 {
     keep_digest(here);
@@ -126,13 +127,13 @@ fn try_retire(
     mover: &Mover,
     platform: &mut MemPlatform,
     issued: &[Bytes],
-    nonce: &[u8; 32],
+    nonce: &Nonce,
     offer: &Offer,
     course: &CallPlan<'_>,
 ) -> Result<Option<Result<Bytes, MoveRefusal>>, Memory>
     ensures { (link : Link) → link ≡ link_of (pair_of mover.now.header) → TriesMove (λ bytes cell.
-        retirement_in (meaning_of mover.now.header.«module») mover.now.header.variant link nonce.now
-        bytes (moved_cell_of cell)) course.now.stop course.now.meddles.now
+        retirement_in (meaning_of mover.now.header.«module») mover.now.header.variant link
+        nonce.now.bytes bytes (moved_cell_of cell)) course.now.stop course.now.meddles.now
         (offered_bytes issued.now offer.now) platform.old platform.new result }
 {
     match offered(mover.alloc, issued, offer) {
@@ -154,13 +155,13 @@ fn retire(
     alloc: Global,
     here: &mut Side,
     between: &mut IssuedTickets,
-    nonce: &[u8; 32],
+    nonce: &Nonce,
     offer: &Offer,
     course: &CallPlan<'_>,
 ) -> Result<MoveReply, Memory>
     requires { vec_len between.old.tickets < 2 ^ 32 }
     ensures made { (which : both.SideName) → CommandGoes (pair_of here.old.seat.header) which
-        course.now.meddles.now course.now.stop (Retire nonce.now offer.now)
+        course.now.meddles.now course.now.stop (Retire nonce.now.bytes offer.now)
         (command_reach here.old between.old) (command_reach here.new between.new) result }
     ensures headed { here.new.seat.header ≡ here.old.seat.header }
 {

@@ -1,5 +1,6 @@
 //! The events of two sides.
 
+use crate::nonce::Nonce;
 use mm_platform::Stop;
 use mm_schedule::{Event, Meddles, Offer};
 
@@ -14,10 +15,10 @@ pub enum SideChoice {
 #[derive(Debug, Drop)]
 pub enum Command {
     /// The module is invited to the side, under a nonce.
-    Invite { nonce: [u8; 32] },
+    Invite { nonce: Nonce },
     /// The module leaves the side for whoever was invited under the nonce, with one of the side's
     /// snapshots.
-    Retire { nonce: [u8; 32], offer: Offer },
+    Retire { nonce: Nonce, offer: Offer },
     /// The module enters the side, with one of the tickets.
     Accept { offer: Offer },
 }

@@ -8,6 +8,7 @@ ghost use Rattle.mm_move.specs.Refusals.{move_fault_in};
 ghost use Rattle.mm_transfer.specs.SideCommands.{TellsRefusalAs, has_moved};
 ghost use Rattle.mm_transfer.specs.MovePlan.{MovesByPlan, has_effect_at};
 
+use crate::nonce::Nonce;
 use crate::reply::{MoveCause, MoveReply};
 use mm_base::{Bytes, Memory};
 use mm_model::Refusal;
@@ -82,12 +83,12 @@ pub fn planned_invite(
     header: &Header,
     platform: &mut MemPlatform,
     link: &Link,
-    nonce: &[u8; 32],
+    nonce: &Nonce,
     key: &[u8; 32],
     course: &CallPlan<'_>,
 ) -> Result<Invited, MoveRefusal>
     ensures { (id : ℕ) → id ≡ (meaning_of header.now.«module»).id → MovesByPlan (λ bytes.
-        invitation_in (waiting_for link.now header.now.variant id nonce.now key.now)
+        invitation_in (waiting_for link.now header.now.variant id nonce.now.bytes key.now)
         (moved_cell_of bytes))
         course.now.stop course.now.meddles.now platform.old platform.new result }
 {
@@ -99,7 +100,7 @@ pub fn planned_invite(
                 link,
                 header.variant,
                 header.module.id(),
-                nonce,
+                &nonce.bytes,
                 key,
             );
             settle(platform, course.stop, is_broken(&came));
@@ -113,13 +114,13 @@ pub fn planned_retire(
     mover: &Mover,
     platform: &mut MemPlatform,
     link: &Link,
-    nonce: &[u8; 32],
+    nonce: &Nonce,
     offer: &[u8],
     course: &CallPlan<'_>,
 ) -> Result<Bytes, MoveRefusal>
     ensures { MovesByPlan (λ bytes.
         retirement_in (meaning_of mover.now.header.«module») mover.now.header.variant link.now
-        nonce.now offer.now (moved_cell_of bytes))
+        nonce.now.bytes offer.now (moved_cell_of bytes))
         course.now.stop course.now.meddles.now platform.old platform.new result }
 {
     match platform.plan(course.stop, course.meddles) {
@@ -131,7 +132,7 @@ pub fn planned_retire(
                 mover.header.variant,
                 platform,
                 link,
-                nonce,
+                &nonce.bytes,
                 offer,
             );
             settle(platform, course.stop, is_broken(&came));

@@ -10,6 +10,7 @@ ghost use Rattle.mm_transfer.specs.Grammar.{first_header_at, side_at, named_offe
 ghost use Rattle.mm_transfer.specs.Texts as texts;
 
 use crate::event::{SideChoice, SideEvent};
+use crate::nonce::Nonce;
 use crate::text::{ActText, CommandText, SideEventText, owned};
 use mm_platform::Stop;
 use mm_schedule::{
@@ -141,12 +142,12 @@ fn command_in(line: &[u8]) -> Option<CommandText<'_>>
 }
 
 // A nonce of 64 hexadecimal digits.
-fn nonce_in(word: &[u8]) -> Option<[u8; 32]>
-    ensures { result ≡ value_at word.now }
+fn nonce_in(word: &[u8]) -> Option<Nonce>
+    ensures { option_map (λ nonce. nonce.bytes) result ≡ value_at word.now }
 {
     let value = value_in(word)?;
-    let nonce = value.bytes;
-    Some(nonce)
+    let bytes = value.bytes;
+    Some(Nonce { bytes })
 }
 
 // A nonce and an offer behind `retire`.

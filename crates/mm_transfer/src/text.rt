@@ -5,6 +5,7 @@ ghost use Rattle.mm_transfer.specs.Events.{command_of, act_of, side_event_of};
 ghost use Rattle.mm_transfer.specs.Texts as texts;
 
 use crate::event::{Command, SideAct, SideChoice, SideEvent};
+use crate::nonce::Nonce;
 use mm_base::{Bytes, Memory};
 use mm_digest::Digest;
 use mm_platform::Stop;
@@ -13,16 +14,9 @@ use std::alloc::Global;
 
 /// A command as it lies in its line.
 pub enum CommandText<'a> {
-    Invite {
-        nonce: [u8; 32],
-    },
-    Retire {
-        nonce: [u8; 32],
-        from: OfferText<'a>,
-    },
-    Accept {
-        from: OfferText<'a>,
-    },
+    Invite { nonce: Nonce },
+    Retire { nonce: Nonce, from: OfferText<'a> },
+    Accept { from: OfferText<'a> },
 }
 
 /// What happens on a side, as it lies in its line.

@@ -15,9 +15,9 @@ returns-in-Err-clause-made c = λ which fits counted.
 pub returns-in-Ok-None-clause-made : goal.returns-in-Ok-None-clause-made
 returns-in-Ok-None-clause-made c = λ which fits counted.
     let pair = pair_of c.args.here.now.seat.header in
-    retired_unissued pair which c.args.nonce.now c.args.offer.now c.args.course.now.stop c.args.course.now.meddles.now c.args.here.now _
-    c.args.between.now _ (nothing_named
-    (λ bytes (cell : List ℕ). retirement_in pair.meaning pair.variant (link_of pair) c.args.nonce.now bytes (moved_cell_of cell))
+    retired_unissued pair which c.args.nonce.now.bytes c.args.offer.now c.args.course.now.stop c.args.course.now.meddles.now
+    c.args.here.now _ c.args.between.now _ (nothing_named
+    (λ bytes (cell : List ℕ). retirement_in pair.meaning pair.variant (link_of pair) c.args.nonce.now.bytes bytes (moved_cell_of cell))
     c.args.course.now.stop c.args.course.now.meddles.now c.args.here.now.seat.issued.items c.as_slice.result.now c.args.offer.now
     c.args.here.now.seat.platform _ c.in-Ok-None.field-0 c.as_slice.ensures.value (c.in-Ok-None.ensures (link_of pair) refl)
     c.in-Ok-None.field-0-is) (record { digest = refl; issued = refl; committed = refl })
@@ -26,10 +26,10 @@ returns-in-Ok-None-clause-made c = λ which fits counted.
 pub returns-in-Ok-Some-clause-made : goal.returns-in-Ok-Some-clause-made
 returns-in-Ok-Some-clause-made c = λ which fits counted.
     let pair = pair_of c.args.here.now.seat.header in
-    retired_done pair which c.args.nonce.now c.args.offer.now c.args.course.now.stop c.args.course.now.meddles.now c.args.here.now _
+    retired_done pair which c.args.nonce.now.bytes c.args.offer.now c.args.course.now.stop c.args.course.now.meddles.now c.args.here.now _
     c.args.between.now _ c.leave.new.self c.is_live-was_live.result c.cell.result.now c.in-Ok-Some.came c.leave.result c.told-nonce
     (named_by
-    (λ bytes (cell : List ℕ). retirement_in pair.meaning pair.variant (link_of pair) c.args.nonce.now bytes (moved_cell_of cell))
+    (λ bytes (cell : List ℕ). retirement_in pair.meaning pair.variant (link_of pair) c.args.nonce.now.bytes bytes (moved_cell_of cell))
     c.args.course.now.stop c.args.course.now.meddles.now c.args.here.now.seat.issued.items c.as_slice.result.now c.args.offer.now
     c.args.here.now.seat.platform _ c.in-Ok-Some.field-0 c.as_slice.ensures.value (c.in-Ok-Some.ensures (link_of pair) refl)
     c.in-Ok-Some.came

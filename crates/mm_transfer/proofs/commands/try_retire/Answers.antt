@@ -6,7 +6,7 @@ pub returns-in-Ok-Some : goal.returns-in-Ok-Some
 returns-in-Ok-Some c = λ link is.
     let found = rw c.in-Ok-Some.field-0-is at c.in-Ok-Some.ensures in
     tried (λ link bytes (cell : List ℕ).
-    retirement_in (meaning_of c.args.mover.now.header.module) c.args.mover.now.header.variant link c.args.nonce.now bytes
+    retirement_in (meaning_of c.args.mover.now.header.module) c.args.mover.now.header.variant link c.args.nonce.now.bytes bytes
     (moved_cell_of cell))
     c.args.course.now.stop
     c.args.course.now.meddles.now _ _ _ _
