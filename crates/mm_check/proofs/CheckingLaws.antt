@@ -176,7 +176,7 @@ not_written result fault h is same =
 module _ {first next : CheckStage} {left left' received received' : Option (List ℕ)} {result : Result (Unit {0}) ReplayFault}
     (begins : first ≡ AtHeader)
     (played : PlaysInput (check_answer header_at) check_closing first next (stream_standing left received)
-        (stream_standing left' received') result) where
+    (stream_standing left' received') result) where
   pub judged_ok : (it : Verdicts) (done : Unit {0}) → result ≡ Ok done → StageConcludes next it → JudgePromise left left' (Ok it)
   judged_ok it done is c =
       let p = plays_ok begins played done is it in
