@@ -6,7 +6,7 @@ mod reasons;
 
 use crate::reasons::{Reasons, say};
 use mm_app::{Status, memoir};
-use mm_files::{FilePages, FilePlatform, FileSource, Name, StdSink, StdSource};
+use mm_files::{FilePages, FilePlatform, FileSource, StdSink, StdSource};
 use mm_pages::PageStore;
 use mm_twocell::TwoCell;
 use std::io::ErrorKind;
@@ -73,7 +73,7 @@ fn with_streams(
     store: &mut PageStore<FilePages<'_, HostRuntime>>,
 ) -> Status {
     let mut input = StdSource::new(rt.reader());
-    let mut entropy = FileSource::new(rt, Name::Entropy);
+    let mut entropy = FileSource::new(rt, "entropy");
     let mut out = StdSink::new(io::writer(rt));
     let status = memoir(
         rt.alloc(),

@@ -4,10 +4,9 @@
 
 ghost use Rattle.std.specs.Prelude.{◌≤◌, IfOk};
 
-use crate::name::Name;
 use crate::reason::{Reason, named};
 use std::fs::{self, Metadata, OpenFile, OpenOptions};
-use std::io::{self, ErrorKind};
+use std::io::ErrorKind;
 use std::os::unix::fs::{FileExt, MetadataExt, OpenOptionsExt};
 use std::rt::Files;
 
@@ -32,38 +31,12 @@ impl Identity {
     }
 }
 
-/// What was seen of a file.
-#[derive(Clone, Copy)]
-pub struct Seen {
-    pub size: u64,
-    pub identity: Identity,
-}
-
-impl Seen {
-    /// Of what the system shows of it.
-    pub fn of(there: &Metadata) -> Seen {
-        Seen {
-            size: there.len(),
-            identity: Identity::of(there),
-        }
-    }
-
-    /// Its size, if it is this file.
-    pub fn size_of(&self, identity: Identity) -> Option<u64> {
-        if self.identity == identity {
-            Some(self.size)
-        } else {
-            None
-        }
-    }
-}
-
 /// An open file.
 #[derive(Drop)]
 pub struct OpenedFile<F> {
     file: F,
     /// The name that it was opened by.
-    pub name: Name,
+    pub name: &'static str,
     /// How many bytes it has, by what was seen of it and done to it.
     pub size: u64,
     /// Whether this program let its bytes be on the disk, and whether it did so with its name.
@@ -76,16 +49,19 @@ pub struct OpenedFile<F> {
 
 impl<F: OpenFile + FileExt + Drop> OpenedFile<F> {
     // A file that was just opened. An error where it is no file.
-    fn of(file: F, name: Name) -> Result<OpenedFile<F>, Reason> {
-        let seen = seen_of(&file, name)?;
+    fn of(file: F, name: &'static str) -> Result<OpenedFile<F>, Reason> {
+        let there = named(name, file.metadata())?;
+        if !there.is_file() {
+            return Err(Reason::NoFile { name });
+        }
         Ok(OpenedFile {
             file,
             name,
-            size: seen.size,
+            size: there.len(),
             is_synced: false,
             is_listed: false,
             is_alone: false,
-            identity: seen.identity,
+            identity: Identity::of(&there),
         })
     }
 
@@ -97,11 +73,9 @@ impl<F: OpenFile + FileExt + Drop> OpenedFile<F> {
     /// Writes these bytes from `at` on, in place.
     pub fn write(&mut self, at: u64, bytes: &[u8]) -> Result<(), Reason> {
         self.is_synced = false;
-        let outcome = named(self.name, self.file.write_all_at(bytes, at));
-        if outcome.is_ok() {
-            self.size = self.size.max(at.saturating_add(bytes.len() as u64));
-        }
-        outcome
+        named(self.name, self.file.write_all_at(bytes, at))?;
+        self.size = self.size.max(at.saturating_add(bytes.len() as u64));
+        Ok(())
     }
 
     /// Gives it this length, where it has another.
@@ -110,49 +84,18 @@ impl<F: OpenFile + FileExt + Drop> OpenedFile<F> {
         if self.size == length {
             return Ok(());
         }
-        let outcome = named(self.name, self.file.set_len(length));
-        if outcome.is_ok() {
-            self.size = length;
-        }
-        outcome
+        named(self.name, self.file.set_len(length))?;
+        self.size = length;
+        Ok(())
     }
 
     /// Lets its bytes be on the disk, where this program didn't yet.
     pub fn sync(&mut self) -> Result<(), Reason> {
-        if self.is_synced {
-            return Ok(());
+        if !self.is_synced {
+            named(self.name, self.file.sync_data())?;
+            self.is_synced = true;
         }
-        let outcome = named(self.name, self.file.sync_data());
-        self.is_synced = outcome.is_ok();
-        outcome
-    }
-
-    /// Gives it this name, which another file may have.
-    pub fn rename<R: Files>(&mut self, files: &R, name: Name) -> Result<(), Reason> {
-        let outcome = named(name, fs::rename(files, self.name.text(), name.text()));
-        if outcome.is_ok() {
-            self.name = name;
-        }
-        outcome
-    }
-
-    /// Gives it these bytes alone, and lets them be on the disk.
-    pub fn fill(&mut self, bytes: &[u8]) -> Result<(), Reason> {
-        self.cut(0)?;
-        self.write(0, bytes)?;
-        self.sync()
-    }
-
-    /// An error where it hasn't this size.
-    pub fn sized(&self, wanted: u64) -> Result<(), Reason> {
-        if self.size == wanted {
-            return Ok(());
-        }
-        Err(Reason::Length {
-            name: self.name,
-            size: self.size,
-            wanted,
-        })
+        Ok(())
     }
 
     /// Its size, at most this many bytes. A greater one is an error.
@@ -168,44 +111,23 @@ impl<F: OpenFile + FileExt + Drop> OpenedFile<F> {
     }
 }
 
-// What is seen of an open file. An error where it is no file.
-fn seen_of<F: OpenFile>(file: &F, name: Name) -> Result<Seen, Reason> {
-    let there = named(name, file.metadata())?;
-    if there.is_file() {
-        Ok(Seen::of(&there))
-    } else {
-        Err(Reason::NoFile { name })
-    }
-}
-
 /// Opens the file of a name. None where it is absent.
-pub fn open_there<R: Files>(files: &R, name: Name) -> Result<Option<OpenedFile<R::File>>, Reason>
+pub fn open_there<R: Files>(
+    files: &R,
+    name: &'static str,
+) -> Result<Option<OpenedFile<R::File>>, Reason>
 where
     R::File: FileExt,
 {
-    let file = OpenOptions::new()
-        .read(true)
-        .write(true)
-        .open(files, name.text());
-    match file {
+    match OpenOptions::new().read(true).write(true).open(files, name) {
         Ok(file) => Ok(Some(OpenedFile::of(file, name)?)),
-        Err(error) => match error.kind() {
-            ErrorKind::NotFound => Ok(None),
-            _ => Err(Reason::System { name, error }),
-        },
+        Err(error) if error.kind() == ErrorKind::NotFound => Ok(None),
+        Err(error) => Err(Reason::System { name, error }),
     }
 }
 
-// What came of opening the file of a name.
-fn opened<F: OpenFile + FileExt + Drop>(
-    name: Name,
-    outcome: io::Result<F>,
-) -> Result<OpenedFile<F>, Reason> {
-    OpenedFile::of(named(name, outcome)?, name)
-}
-
 /// Opens the file of a name. Where it is absent an empty one is made.
-pub fn open_or_make<R: Files>(files: &R, name: Name) -> Result<OpenedFile<R::File>, Reason>
+pub fn open_or_make<R: Files>(files: &R, name: &'static str) -> Result<OpenedFile<R::File>, Reason>
 where
     R::File: FileExt,
 {
@@ -214,13 +136,17 @@ where
         .write(true)
         .create(true)
         .mode(OWNER_ALONE)
-        .open(files, name.text());
-    opened(name, file)
+        .open(files, name);
+    OpenedFile::of(named(name, file)?, name)
 }
 
 /// Makes an empty file at this path, as that of a name. An error where something is there: no link
 /// is followed.
-pub fn make<R: Files>(files: &R, name: Name, path: &str) -> Result<OpenedFile<R::File>, Reason>
+pub fn make<R: Files>(
+    files: &R,
+    name: &'static str,
+    path: &str,
+) -> Result<OpenedFile<R::File>, Reason>
 where
     R::File: FileExt,
 {
@@ -230,5 +156,28 @@ where
         .create_new(true)
         .mode(OWNER_ALONE)
         .open(files, path);
-    opened(name, file)
+    OpenedFile::of(named(name, file)?, name)
+}
+
+/// Puts these bytes in place of a file's, which is never seen in part: they are written to a new
+/// file and synced, and the new file takes the name, which is not synced yet. The new file stays
+/// open.
+pub fn replace<R: Files>(
+    files: &R,
+    new: &'static str,
+    name: &'static str,
+    bytes: &[u8],
+) -> Result<OpenedFile<R::File>, Reason>
+where
+    R::File: FileExt,
+{
+    let mut opened = open_or_make(files, new)?;
+    if opened.size > 0 {
+        opened.cut(0)?;
+    }
+    opened.write(0, bytes)?;
+    opened.sync()?;
+    named(name, fs::rename(files, new, name))?;
+    opened.name = name;
+    Ok(opened)
 }

@@ -1,7 +1,6 @@
 //! A file of the current directory that stays open.
 
-use crate::disk::{Identity, OpenedFile, Seen, open_or_make, open_there};
-use crate::name::Name;
+use crate::disk::{Identity, OpenedFile, open_or_make, open_there};
 use crate::reason::Reason;
 use std::fs;
 use std::os::unix::fs::FileExt;
@@ -11,18 +10,23 @@ use std::rt::Files;
 /// it, and kept again behind that: so it is closed where something failed, and what follows opens
 /// it anew. Where it is looked at, and others gave the name to another file, that one is opened.
 #[derive(Drop)]
-pub struct KeptFile<R: Files> {
-    name: Name,
+pub struct KeptFile<'a, R: Files> {
+    files: &'a R,
+    name: &'static str,
     opened: Option<OpenedFile<R::File>>,
 }
 
-impl<R: Files> KeptFile<R>
+impl<'a, R: Files> KeptFile<'a, R>
 where
     R::File: FileExt,
 {
     /// The file of this name, which isn't opened yet.
-    pub fn new(name: Name) -> KeptFile<R> {
-        KeptFile { name, opened: None }
+    pub fn new(files: &'a R, name: &'static str) -> KeptFile<'a, R> {
+        KeptFile {
+            files,
+            name,
+            opened: None,
+        }
     }
 
     /// Which file is open.
@@ -33,41 +37,33 @@ where
         }
     }
 
-    /// Takes the file, looked at. Where it is absent an empty one is made.
-    pub fn look_or_make(&mut self, files: &R) -> Result<OpenedFile<R::File>, Reason> {
-        self.look_again(files);
-        match self.opened.take() {
-            Some(opened) => Ok(opened),
-            None => open_or_make(files, self.name),
+    /// Takes the file, looked at. None where it is absent.
+    pub fn look(&mut self) -> Result<Option<OpenedFile<R::File>>, Reason> {
+        match self.take_named() {
+            Some(opened) => Ok(Some(opened)),
+            None => open_there(self.files, self.name),
         }
     }
 
-    /// Takes the file as it is open, looked at where that is asked for. None where it is absent.
-    pub fn take(
-        &mut self,
-        files: &R,
-        is_looked_at: bool,
-    ) -> Result<Option<OpenedFile<R::File>>, Reason> {
-        if is_looked_at {
-            self.look_again(files);
+    /// Takes the file, looked at. Where it is absent an empty one is made.
+    pub fn look_or_make(&mut self) -> Result<OpenedFile<R::File>, Reason> {
+        match self.take_named() {
+            Some(opened) => Ok(opened),
+            None => open_or_make(self.files, self.name),
         }
+    }
+
+    /// Takes the file as it is open, or else looked at. None where it is absent.
+    pub fn take(&mut self) -> Result<Option<OpenedFile<R::File>>, Reason> {
         match self.opened.take() {
             Some(opened) => Ok(Some(opened)),
-            None => open_there(files, self.name),
+            None => open_there(self.files, self.name),
         }
     }
 
-    /// Keeps a file open where what was done to it succeeded, and closes it otherwise.
-    pub fn keep_after<T>(
-        &mut self,
-        opened: OpenedFile<R::File>,
-        outcome: Result<T, Reason>,
-    ) -> Result<T, Reason> {
+    /// Keeps a file open as that of the name.
+    pub fn keep(&mut self, opened: OpenedFile<R::File>) {
         self.opened = Some(opened);
-        if outcome.is_err() {
-            self.opened = None;
-        }
-        outcome
     }
 
     /// Closes the file.
@@ -75,41 +71,16 @@ where
         self.opened = None;
     }
 
-    /// Opens the file, and lets its bytes be on the disk. Nothing is done where it is absent.
-    pub fn open_synced(&mut self, files: &R) -> Result<(), Reason> {
-        match self.take(files, false)? {
-            Some(mut opened) => {
-                let outcome = opened.sync();
-                self.keep_after(opened, outcome)
+    // Takes the file that is open, with the size that it has now, if it is still the one of the
+    // name.
+    fn take_named(&mut self) -> Option<OpenedFile<R::File>> {
+        let mut opened = self.opened.take()?;
+        match fs::metadata(self.files, self.name) {
+            Ok(there) if Identity::of(&there) == opened.identity => {
+                opened.size = there.len();
+                Some(opened)
             }
-            None => Ok(()),
+            _ => None,
         }
-    }
-
-    /// Takes it that the name of the file that is open is on the disk.
-    pub fn set_listed(&mut self) {
-        if let Some(opened) = &mut self.opened {
-            opened.is_listed = true;
-        }
-    }
-
-    // Gives the file that is open the size that it has now, if it is still the one of the name, and
-    // closes it otherwise.
-    fn look_again(&mut self, files: &R) {
-        let Some(opened) = &mut self.opened else {
-            return;
-        };
-        match size_named(files, self.name, opened.identity) {
-            Some(size) => opened.size = size,
-            None => self.opened = None,
-        }
-    }
-}
-
-// The size that the file of a name has, if it is this one.
-fn size_named<R: Files>(files: &R, name: Name, identity: Identity) -> Option<u64> {
-    match fs::metadata(files, name.text()) {
-        Ok(there) => Seen::of(&there).size_of(identity),
-        Err(_) => None,
     }
 }

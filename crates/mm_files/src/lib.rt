@@ -8,7 +8,6 @@ mod disk;
 mod folder;
 mod kept;
 mod lock;
-mod name;
 mod pages;
 mod place;
 mod platform;
@@ -18,7 +17,6 @@ mod source;
 mod streams;
 
 pub use lock::Lock;
-pub use name::Name;
 pub use pages::FilePages;
 pub use platform::FilePlatform;
 pub use reason::Reason;

@@ -1,8 +1,7 @@
 //! Where the file of a slot itself stands, behind links, and whether it is one of its own.
 
 use crate::disk::{Identity, OpenedFile, make};
-use crate::name::Name;
-use crate::reason::{Reason, named};
+use crate::reason::{HERE, Reason, named};
 use mm_base::Memory;
 use std::alloc::Global;
 use std::fs::{self, OpenFile};
@@ -14,22 +13,22 @@ use std::rt::Files;
 /// How many links are followed.
 const MOST_LINKS: u32 = 40;
 
-/// The program's files in the current directory that have a file of their own each.
-const NAMES: [Name; 7] = [
-    Name::Nv,
-    Name::Register,
-    Name::NewRegister,
-    Name::Slot0,
-    Name::Slot1,
-    Name::Slot2,
-    Name::Slot3,
+/// The names of the program's files in the current directory. Each has a file of its own.
+const NAMES: [&str; 7] = [
+    "nv",
+    "register",
+    "register.new",
+    "slot0",
+    "slot1",
+    "slot2",
+    "slot3",
 ];
 
 /// Where the file of a slot stands: the path to which the links of its name led when the program
 /// began, whether a file was there or not.
 #[derive(Drop)]
 pub struct FilePlace {
-    pub name: Name,
+    name: &'static str,
     path: PathBuf,
     // Why the links couldn't be followed.
     failed: Option<Reason>,
@@ -37,21 +36,19 @@ pub struct FilePlace {
 
 impl FilePlace {
     /// That of this name.
-    pub fn of<R: Files>(alloc: Global, files: &R, name: Name) -> Result<FilePlace, Memory> {
-        match path_behind(alloc, files, name.text()) {
+    pub fn of<R: Files>(alloc: Global, files: &R, name: &'static str) -> Result<FilePlace, Memory> {
+        match path_behind(alloc, files, name) {
             Ok(path) => Ok(FilePlace {
                 name,
                 path,
                 failed: None,
             }),
-            Err(error) => match error.kind() {
-                ErrorKind::OutOfMemory => Err(Memory),
-                _ => Ok(FilePlace {
-                    name,
-                    path: PathBuf::new(alloc),
-                    failed: Some(Reason::System { name, error }),
-                }),
-            },
+            Err(error) if error.kind() == ErrorKind::OutOfMemory => Err(Memory),
+            Err(error) => Ok(FilePlace {
+                name,
+                path: PathBuf::new(alloc),
+                failed: Some(Reason::System { name, error }),
+            }),
         }
     }
 
@@ -79,8 +76,8 @@ impl FilePlace {
         if let Err(error) = sync_folder(files, self.folder()) {
             return Err(Reason::Folder { name, error });
         }
-        if self.path.as_str() != name.text() {
-            return named(Name::Here, sync_folder(files, "."));
+        if self.path.as_str() != name {
+            return named(HERE, sync_folder(files, "."));
         }
         Ok(())
     }
@@ -102,15 +99,20 @@ impl FilePlace {
     }
 
     // Which of the other files has the name that the path ends in.
-    fn other_name(&self) -> Option<Name> {
+    fn other_name(&self) -> Option<&'static str> {
         let last = self.path.file_name()?;
         for other in NAMES {
-            if other != self.name && other.text() == last {
+            if other != self.name && other == last {
                 return Some(other);
             }
         }
         None
     }
+}
+
+// Whether nothing is at a path, or no link.
+fn is_no_link(error: &io::Error) -> bool {
+    matches!(error.kind(), ErrorKind::NotFound | ErrorKind::InvalidInput)
 }
 
 // The path to which the links of a name lead. It is the name where it is no link.
@@ -122,11 +124,8 @@ fn path_behind<R: Files>(alloc: Global, files: &R, name: &str) -> io::Result<Pat
                 let _ = path.pop();
                 path.push(target)?;
             }
-            Err(error) => match error.kind() {
-                // Nothing is there, or no link.
-                ErrorKind::NotFound | ErrorKind::InvalidInput => return Ok(path),
-                _ => return Err(error),
-            },
+            Err(error) if is_no_link(&error) => return Ok(path),
+            Err(error) => return Err(error),
         }
     }
     Err(io::Error::from(ErrorKind::FilesystemLoop))
@@ -159,12 +158,10 @@ where
 }
 
 // Whether a name leads to this file.
-fn is_at<R: Files>(files: &R, name: Name, identity: Identity) -> Result<bool, Reason> {
-    match fs::metadata(files, name.text()) {
+fn is_at<R: Files>(files: &R, name: &'static str, identity: Identity) -> Result<bool, Reason> {
+    match fs::metadata(files, name) {
         Ok(there) => Ok(Identity::of(&there) == identity),
-        Err(error) => match error.kind() {
-            ErrorKind::NotFound => Ok(false),
-            _ => Err(Reason::System { name, error }),
-        },
+        Err(error) if error.kind() == ErrorKind::NotFound => Ok(false),
+        Err(error) => Err(Reason::System { name, error }),
     }
 }

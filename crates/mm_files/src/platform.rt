@@ -21,8 +21,7 @@ use std::rt::Files;
 /// Memory is read with the byte at 208, and the next reading call tells what was read then.
 #[derive(Drop)]
 pub struct FilePlatform<'a, R: Files> {
-    files: &'a R,
-    folder: Folder<R>,
+    folder: Folder<'a, R>,
     steps: u64,
     cycles: u64,
     faults: u64,
@@ -41,8 +40,7 @@ where
         ensures reason { result.last ≡ None }
     {
         FilePlatform {
-            files,
-            folder: Folder::new(),
+            folder: Folder::new(files),
             steps: 0,
             cycles: 0,
             faults: 0,
@@ -88,7 +86,7 @@ where
     R::File: Lock + FileExt,
 {
     fn raw_read(&mut self, at: u16, into: &mut [u8]) -> Result<(), StepFault> {
-        let outcome = self.folder.nv(self.files, at);
+        let outcome = self.folder.nv(at);
         let bytes = told(&mut self.faults, &mut self.last, outcome)?;
         let start = usize::from(at);
         into.copy_from_slice(&bytes[start..start + into.len()]);
@@ -96,13 +94,13 @@ where
     }
 
     fn raw_write(&mut self, at: u16, bytes: &[u8]) -> Result<(), StepFault> {
-        let outcome = self.folder.put_nv(self.files, at, bytes);
+        let outcome = self.folder.put_nv(at, bytes);
         told(&mut self.faults, &mut self.last, outcome)
     }
 
     fn raw_cycle(&mut self) -> Result<(), StepFault> {
         self.cycles = self.cycles.saturating_add(1);
-        let outcome = self.folder.put_register(self.files, &zero());
+        let outcome = self.folder.put_register(&zero());
         told(&mut self.faults, &mut self.last, outcome)
     }
 
@@ -119,19 +117,19 @@ where
 
     fn reg_read(&mut self) -> Result<Digest, StepFault> {
         self.steps = self.steps.saturating_add(1);
-        let outcome = self.folder.register(self.files, true);
+        let outcome = self.folder.register();
         told(&mut self.faults, &mut self.last, outcome)
     }
 
     fn reg_reset(&mut self) -> Result<(), StepFault> {
         self.steps = self.steps.saturating_add(1);
-        let outcome = self.folder.put_register(self.files, &zero());
+        let outcome = self.folder.put_register(&zero());
         told(&mut self.faults, &mut self.last, outcome)
     }
 
     fn reg_extend(&mut self, value: &Digest) -> Result<(), StepFault> {
         self.steps = self.steps.saturating_add(1);
-        let outcome = self.folder.extend_register(self.files, value);
+        let outcome = self.folder.extend_register(value);
         told(&mut self.faults, &mut self.last, outcome)
     }
 }

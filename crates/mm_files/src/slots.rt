@@ -4,13 +4,11 @@ ghost use Rattle.std.specs.Prelude.{◌≤◌};
 
 use crate::disk::{Identity, OpenedFile};
 use crate::kept::KeptFile;
-use crate::name::Name;
 use crate::place::{FilePlace, refuse_same};
 use crate::reason::Reason;
 use mm_base::Memory;
 use mm_store::Four;
 use std::alloc::Global;
-use std::fs::OpenFile;
 use std::os::unix::fs::FileExt;
 use std::rt::Files;
 
@@ -22,32 +20,27 @@ const LATER: u16 = 1;
 
 /// The files of the slots.
 #[derive(Drop)]
-pub struct SlotFiles<R: Files> {
-    slots: Four<Slot<R>>,
+pub struct SlotFiles<'a, R: Files> {
+    slots: Four<Slot<'a, R>>,
 }
 
-impl<R: Files> SlotFiles<R>
+impl<'a, R: Files> SlotFiles<'a, R>
 where
     R::File: FileExt,
 {
     /// The slots, whose links are followed now.
-    pub fn new(alloc: Global, files: &R) -> Result<SlotFiles<R>, Memory> {
-        let zero = FilePlace::of(alloc, files, Name::Slot0)?;
-        let one = FilePlace::of(alloc, files, Name::Slot1)?;
-        let two = FilePlace::of(alloc, files, Name::Slot2)?;
-        let three = FilePlace::of(alloc, files, Name::Slot3)?;
+    pub fn new(alloc: Global, files: &'a R) -> Result<SlotFiles<'a, R>, Memory> {
+        let zero = Slot::new(alloc, files, "slot0")?;
+        let one = Slot::new(alloc, files, "slot1")?;
+        let two = Slot::new(alloc, files, "slot2")?;
+        let three = Slot::new(alloc, files, "slot3")?;
         Ok(SlotFiles {
-            slots: Four::new(
-                Slot::new(zero),
-                Slot::new(one),
-                Slot::new(two),
-                Slot::new(three),
-            ),
+            slots: Four::new(zero, one, two, three),
         })
     }
 
     /// The slot of this number below 4. It knows which files the others have open.
-    pub fn get(&mut self, slot: u8) -> &mut Slot<R> {
+    pub fn get(&mut self, slot: u8) -> &mut Slot<'a, R> {
         let claims = self.claims();
         let slot = self.slots.get_mut(slot);
         slot.claims = claims;
@@ -66,16 +59,16 @@ where
 }
 
 // The slot that has this file open, of slots that have these.
-fn name_of(claims: &Four<Option<Identity>>, file: Identity) -> Option<Name> {
+fn name_of(claims: &Four<Option<Identity>>, file: Identity) -> Option<&'static str> {
     let file = Some(file);
     if *claims.get(0) == file {
-        Some(Name::Slot0)
+        Some("slot0")
     } else if *claims.get(1) == file {
-        Some(Name::Slot1)
+        Some("slot1")
     } else if *claims.get(2) == file {
-        Some(Name::Slot2)
+        Some("slot2")
     } else if *claims.get(3) == file {
-        Some(Name::Slot3)
+        Some("slot3")
     } else {
         None
     }
@@ -91,67 +84,61 @@ fn name_of(claims: &Four<Option<Identity>>, file: Identity) -> Option<Name> {
 /// front on. What was opened is neither read nor written where it is another of the program's
 /// files.
 #[derive(Drop)]
-pub struct Slot<R: Files> {
-    name: Name,
+pub struct Slot<'a, R: Files> {
+    files: &'a R,
+    name: &'static str,
     place: FilePlace,
-    kept: KeptFile<R>,
+    kept: KeptFile<'a, R>,
     // The length that writes of pages gave it, none where it is that of its file.
     length: Option<u64>,
     // What all slots had open when this call began.
     claims: Four<Option<Identity>>,
 }
 
-impl<R: Files> Slot<R>
+impl<'a, R: Files> Slot<'a, R>
 where
     R::File: FileExt,
 {
-    // The slot whose file stands there, which isn't opened yet.
-    fn new(place: FilePlace) -> Slot<R> {
-        let name = place.name;
-        Slot {
+    fn new(alloc: Global, files: &'a R, name: &'static str) -> Result<Slot<'a, R>, Memory> {
+        let place = FilePlace::of(alloc, files, name)?;
+        Ok(Slot {
+            files,
             name,
             place,
-            kept: KeptFile::new(name),
+            kept: KeptFile::new(files, name),
             length: None,
             claims: Four::new(None, None, None, None),
-        }
+        })
     }
 
     // Takes the file, looked at for the first page. None where it is absent.
-    fn find(&mut self, files: &R, page: u16) -> Result<Option<OpenedFile<R::File>>, Reason> {
-        match self.kept.take(files, page == 0)? {
-            Some(opened) => Ok(Some(self.alone(files, opened)?)),
+    fn find(&mut self, page: u16) -> Result<Option<OpenedFile<R::File>>, Reason> {
+        let found = match page {
+            0 => self.kept.look()?,
+            _ => self.kept.take()?,
+        };
+        match found {
+            Some(opened) => Ok(Some(self.alone(opened)?)),
             None => Ok(None),
         }
     }
 
     // Takes the file, looked at for the first page. Where it is absent an empty one is made.
-    fn find_or_make(&mut self, files: &R, page: u16) -> Result<OpenedFile<R::File>, Reason> {
-        match self.find(files, page)? {
+    fn find_or_make(&mut self, page: u16) -> Result<OpenedFile<R::File>, Reason> {
+        match self.find(page)? {
             Some(opened) => Ok(opened),
-            None => self.alone(files, self.place.make(files)?),
+            None => self.alone(self.place.make(self.files)?),
         }
     }
 
     // The file, where it is none of the program's others.
-    fn alone(
-        &self,
-        files: &R,
-        mut opened: OpenedFile<R::File>,
-    ) -> Result<OpenedFile<R::File>, Reason> {
-        self.refuse_others(files, &mut opened)?;
-        Ok(opened)
-    }
-
-    // An error where it is another of the program's files.
-    fn refuse_others(&self, files: &R, opened: &mut OpenedFile<R::File>) -> Result<(), Reason> {
-        if opened.is_alone {
-            return Ok(());
+    fn alone(&self, mut opened: OpenedFile<R::File>) -> Result<OpenedFile<R::File>, Reason> {
+        if !opened.is_alone {
+            refuse_same(self.files, &opened)?;
+            self.refuse_claimed(&opened)?;
+            opened.is_alone = true;
         }
-        refuse_same(files, opened)?;
-        let outcome = self.refuse_claimed(opened);
-        opened.is_alone = outcome.is_ok();
-        outcome
+        Ok(opened)
     }
 
     // An error where another slot has the file open.
@@ -167,105 +154,74 @@ where
 
     /// How many bytes the slot has, none where its file is absent. What an earlier program wrote to
     /// it is on the disk afterwards.
-    pub fn length(&mut self, files: &R) -> Result<u32, Reason> {
+    pub fn length(&mut self) -> Result<u32, Reason> {
         if let Some(length) = self.length {
             return Ok(u32::try_from(length).unwrap_or(u32::MAX));
         }
-        match self.find(files, 0)? {
-            Some(opened) => self.length_of(files, opened),
-            None => Ok(0),
-        }
-    }
-
-    // How many bytes the file has, which is settled.
-    fn length_of(&mut self, files: &R, opened: OpenedFile<R::File>) -> Result<u32, Reason> {
+        let Some(opened) = self.find(0)? else {
+            return Ok(0);
+        };
         let size = opened.size;
-        self.settle(files, opened)?;
+        self.settle(opened)?;
         Ok(u32::try_from(size).unwrap_or(u32::MAX))
     }
 
     /// Reads a page. Bytes past the slot's end are zero.
-    pub fn read(&mut self, files: &R, page: u16, into: &mut [u8; 256]) -> Result<(), Reason> {
+    pub fn read(&mut self, page: u16, into: &mut [u8; 256]) -> Result<(), Reason> {
         *into = [0; 256];
-        match self.find(files, page)? {
-            Some(opened) => self.read_of(opened, page, into),
-            None => Ok(()),
+        if let Some(opened) = self.find(page)? {
+            let start = start_of(page);
+            let (front, _) = into.split_at_mut(part_of(opened.size, start));
+            opened.read(start, front)?;
+            self.kept.keep(opened);
         }
-    }
-
-    // Reads a page of this file, which stays open.
-    fn read_of(
-        &mut self,
-        opened: OpenedFile<R::File>,
-        page: u16,
-        into: &mut [u8; 256],
-    ) -> Result<(), Reason> {
-        let start = start_of(page);
-        let (front, _) = into.split_at_mut(part_of(opened.size, start));
-        let outcome = opened.read(start, front);
-        self.kept.keep_after(opened, outcome)
+        Ok(())
     }
 
     /// Writes a page, in place. After an error the slot has the bytes of its file alone.
-    pub fn write(&mut self, files: &R, page: u16, bytes: &[u8; 256]) -> Result<(), Reason> {
+    pub fn write(&mut self, page: u16, bytes: &[u8; 256]) -> Result<(), Reason> {
         let length = self.length.take().unwrap_or(0);
-        let mut opened = self.find_or_make(files, page)?;
-        let outcome = write_page(&mut opened, page, bytes);
-        if outcome.is_ok() {
-            self.length = Some(opened.size.max(length).max(start_of(page) + PAGE));
-        }
-        self.kept.keep_after(opened, outcome)
+        let mut opened = self.find_or_make(page)?;
+        let start = start_of(page);
+        let (front, _) = bytes.split_at(size_set(bytes).max(part_of(opened.size, start)));
+        opened.write(start, front)?;
+        self.length = Some(opened.size.max(length).max(start + PAGE));
+        self.kept.keep(opened);
+        Ok(())
     }
 
     /// Cuts the slot to this length, or fills it up to there with zero bytes. Its file is changed
     /// where it has another. After an error the slot has the bytes of its file alone.
-    pub fn set_length(&mut self, files: &R, length: u64) -> Result<(), Reason> {
+    pub fn set_length(&mut self, length: u64) -> Result<(), Reason> {
         self.length = None;
-        let mut opened = self.find_or_make(files, LATER)?;
-        let outcome = opened.cut(length);
-        self.kept.keep_after(opened, outcome)
+        let mut opened = self.find_or_make(LATER)?;
+        opened.cut(length)?;
+        self.kept.keep(opened);
+        Ok(())
     }
 
     /// Lets the slot's bytes, in a file of their length, and its name be on the disk. An absent
     /// file stays so.
-    pub fn sync(&mut self, files: &R) -> Result<(), Reason> {
+    pub fn sync(&mut self) -> Result<(), Reason> {
         if let Some(length) = self.length {
-            self.set_length(files, length)?;
+            self.set_length(length)?;
         }
-        match self.find(files, LATER)? {
-            Some(opened) => self.settle(files, opened),
+        match self.find(LATER)? {
+            Some(opened) => self.settle(opened),
             None => Ok(()),
         }
     }
 
-    // Lets the file's bytes and its name be on the disk, and keeps it open.
-    fn settle(&mut self, files: &R, mut opened: OpenedFile<R::File>) -> Result<(), Reason> {
-        let outcome = self.settle_file(files, &mut opened);
-        self.kept.keep_after(opened, outcome)
-    }
-
     // Lets the file's bytes and its name be on the disk, where this program didn't yet.
-    fn settle_file(&self, files: &R, opened: &mut OpenedFile<R::File>) -> Result<(), Reason> {
+    fn settle(&mut self, mut opened: OpenedFile<R::File>) -> Result<(), Reason> {
         opened.sync()?;
-        if opened.is_listed {
-            return Ok(());
+        if !opened.is_listed {
+            self.place.sync_name(self.files)?;
+            opened.is_listed = true;
         }
-        let outcome = self.place.sync_name(files);
-        opened.is_listed = outcome.is_ok();
-        outcome
+        self.kept.keep(opened);
+        Ok(())
     }
-}
-
-// Writes a page to a file, up to its last byte that isn't zero, and over all that the file has of
-// it.
-fn write_page<F: OpenFile + FileExt + Drop>(
-    opened: &mut OpenedFile<F>,
-    page: u16,
-    bytes: &[u8; 256],
-) -> Result<(), Reason> {
-    let start = start_of(page);
-    let (front, _) = bytes.split_at(size_set(bytes).max(part_of(opened.size, start)));
-    opened.write(start, front)
 }
 
 // Where a page begins.

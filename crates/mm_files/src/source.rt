@@ -3,7 +3,6 @@
 ghost use Rattle.std.specs.Prelude.{◌≡◌, ◌≤◌, None, IfOk, length};
 
 use crate::counting::counted;
-use crate::name::Name;
 use crate::reason::{Reason, named};
 use mm_base::{Failed, Source};
 use std::fs;
@@ -15,7 +14,7 @@ use std::rt::Files;
 #[derive(Drop)]
 pub struct FileSource<'a, R: Files> {
     files: &'a R,
-    name: Name,
+    name: &'static str,
     file: Option<R::File>,
     faults: u64,
     last: Option<Reason>,
@@ -24,7 +23,7 @@ pub struct FileSource<'a, R: Files> {
 impl<'a, R: Files> FileSource<'a, R> {
     /// A source over the file of this name, which is opened at the first call. Where there is none,
     /// or a FIFO or a folder is in its place, that call fails.
-    pub fn new(files: &'a R, name: Name) -> FileSource<'a, R>
+    pub fn new(files: &'a R, name: &'static str) -> FileSource<'a, R>
         ensures faults { result.faults ≡ 0 }
         ensures reason { result.last ≡ None }
     {
@@ -48,11 +47,11 @@ impl<'a, R: Files> FileSource<'a, R> {
     // wait.
     fn open(&self) -> Result<R::File, Reason> {
         let name = self.name;
-        let there = named(name, fs::metadata(self.files, name.text()))?;
+        let there = named(name, fs::metadata(self.files, name))?;
         if there.file_type().is_fifo() {
             return Err(Reason::NoFile { name });
         }
-        named(name, fs::open(self.files, name.text()))
+        named(name, fs::open(self.files, name))
     }
 
     // Reads the next bytes.
@@ -60,23 +59,23 @@ impl<'a, R: Files> FileSource<'a, R> {
         ensures within { IfOk result (λ count. count ≤ length buf.new) }
         ensures faults { self.new.faults ≡ self.old.faults }
     {
-        match &mut self.file {
-            Some(file) => named(self.name, file.read(buf)),
-            None => self.read_first(buf),
+        if let Some(file) = &mut self.file {
+            return named(self.name, file.read(buf));
         }
-    }
-
-    // Opens the file and reads its first bytes. It stays open where that succeeds.
-    fn read_first(&mut self, buf: &mut [u8]) -> Result<usize, Reason>
-        ensures within { IfOk result (λ count. count ≤ length buf.new) }
-        ensures faults { self.new.faults ≡ self.old.faults }
-    {
         let mut file = self.open()?;
-        let outcome = named(self.name, file.read(buf));
+        let count = named(self.name, file.read(buf))?;
         self.file = Some(file);
-        if outcome.is_err() {
-            self.file = None;
-        }
-        outcome
+        Ok(count)
+    }
+}
+
+impl<R: Files> Source for FileSource<'_, R> {
+    ghost left = { λ _. None };
+
+    ghost faults = { λ source. source.faults };
+
+    fn take(&mut self, buf: &mut [u8]) -> Result<usize, Failed> {
+        let outcome = self.read(buf);
+        counted(&mut self.faults, &mut self.last, outcome)
     }
 }

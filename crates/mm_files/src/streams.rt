@@ -2,10 +2,14 @@
 
 ghost use Rattle.std.specs.Prelude.{◌≡◌, None};
 
-use crate::name::Name;
 use crate::reason::Reason;
 use mm_base::{Failed, Sink, Source};
 use std::io::{self, ErrorKind, Read, Write};
+
+/// What the reader and the writer are called.
+const INPUT: &str = "standard input";
+
+const OUTPUT: &str = "standard output";
 
 /// A source over a reader.
 #[derive(Drop)]
@@ -47,10 +51,7 @@ impl<R: Read> Source for StdSource<R> {
             Ok(count) => Ok(count),
             Err(error) => {
                 self.faults = self.faults.saturating_add(1);
-                self.last = Some(Reason::System {
-                    name: Name::Input,
-                    error,
-                });
+                self.last = Some(Reason::System { name: INPUT, error });
                 Err(Failed)
             }
         }
@@ -111,7 +112,7 @@ fn unwritten(outcome: io::Result<usize>) -> Reason {
         Err(error) => error,
     };
     Reason::System {
-        name: Name::Output,
+        name: OUTPUT,
         error,
     }
 }
