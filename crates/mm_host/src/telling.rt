@@ -16,7 +16,7 @@ use crate::fault::SessionFault;
 use mm_base::{ReplayFault, Sink, WriteFault, write_all};
 use mm_model::{Answer, Refusal};
 use mm_recovery::{HostFault, Resumed};
-use mm_schedule::{Cause, print_refusal, print_told};
+use mm_schedule::{Cause, Reply, print_line, print_told};
 
 /// The most bytes of a line that is written, its LF too.
 const LINE_ROOM: usize = 4200;
@@ -89,7 +89,7 @@ fn write_refusal<K: Sink>(refusal: Refusal, out: &mut K) -> Result<(), WriteFaul
         return Ok(());
     };
     let mut line = [0; LINE_ROOM];
-    let length = print_refusal(cause, &mut line);
+    let length = print_line(&Reply::No(cause), 0, &mut line);
     let (front, _) = line.split_at(length);
     write_all(out, front)
 }

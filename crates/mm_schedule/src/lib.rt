@@ -15,7 +15,7 @@ mod words;
 pub use event::{Event, Meddles, Offer};
 pub use fault::EventFault;
 pub use header::{Header, put_header, read_head, read_header, read_variant, variant_word};
-pub use print::{print_refusal, print_told, reply_lines};
+pub use print::{print_line, print_told, reply_lines};
 pub use put::{put_end, put_line};
 pub use read::read_event;
 pub use reply::{Cause, Reply, Way};

@@ -1,12 +1,12 @@
 //! Replies as lines.
 
-ghost use Rattle.std.specs.Prelude.{◌≡◌, ◌+◌, ◌≤◌, ◌++◌, [], ◌∷◌, codes, length, take};
+ghost use Rattle.std.specs.Prelude.{◌≡◌, ◌+◌, ◌<◌, ◌≤◌, ◌++◌, [], ◌∷◌, Some, codes, length, take, slice_get};
 ghost use Rattle.std.specs.Fmt.{decimal};
 ghost use Rattle.mm_base.specs.Limits.{longest_request};
-ghost use Rattle.mm_schedule.specs.Replies.{cause_text, lines_of_reply};
+ghost use Rattle.mm_schedule.specs.Replies.{IsPrintable, lines_of_reply, way_text};
 ghost use Rattle.mm_schedule.specs.RepliesWords.{told_line, told_text};
 
-use crate::reply::{Cause, Reply};
+use crate::reply::{Reply, Way};
 use itoa::Buffer;
 
 /// The number of a reply's lines: one for each request of a batch that is told, else one.
@@ -19,14 +19,53 @@ pub fn reply_lines(reply: &Reply) -> usize
     }
 }
 
-/// Writes the line of a refusal with its LF to the front of `into`, and answers its length.
-/// Takes no memory.
-pub fn print_refusal(cause: Cause, into: &mut [u8; 4200]) -> usize
+/// Writes one line of a reply with its LF to the front of `into`, and answers its length. Takes no
+/// memory.
+pub fn print_line(reply: &Reply, index: usize, into: &mut [u8; 4200]) -> usize
+    requires index { index < length (lines_of_reply reply.now) }
+    requires printable { IsPrintable reply.now }
     ensures within { result ≤ 4200 }
-    ensures line { take result into.new ≡ codes "no " ++ cause_text cause ++ 10 ∷ [] }
+    ensures line { slice_get (lines_of_reply reply.now) index ≡ Some (take result into.new) }
 {
-    let at = put(into, 0, b"no ");
-    let at = put(into, at, cause.text());
+    match reply {
+        Reply::Told {
+            again,
+            before,
+            outputs,
+        } => match outputs.get(index) {
+            Some(output) => print_told(*again, *before + index as u64 + 1, output, into),
+            None => unreachable!(),
+        },
+        Reply::No(cause) => print_words(b"no ", cause.text(), into),
+        Reply::Kept { way, position } => print_kept(*way, *position, into),
+        Reply::Nothing { way } => print_words(way.text(), b" lost", into),
+        Reply::Closed { way } => print_words(way.text(), b" closed", into),
+        Reply::Checkpointed => print_words(b"checkpointed", b"", into),
+        Reply::Power => print_words(b"power", b"", into),
+        Reply::Extended => print_words(b"extended", b"", into),
+    }
+}
+
+/// Writes two words and an LF.
+fn print_words(first: &[u8], second: &[u8], into: &mut [u8; 4200]) -> usize
+    requires first { length first.now ≤ 100 }
+    requires second { length second.now ≤ 100 }
+    ensures within { result ≤ 4200 }
+    ensures line { take result into.new ≡ first.now ++ second.now ++ 10 ∷ [] }
+{
+    let at = put(into, 0, first);
+    let at = put(into, at, second);
+    put(into, at, b"\n")
+}
+
+fn print_kept(way: Way, position: u64, into: &mut [u8; 4200]) -> usize
+    ensures within { result ≤ 4200 }
+    ensures line { take result into.new
+        ≡ way_text way ++ codes " kept " ++ decimal position ++ 10 ∷ [] }
+{
+    let at = put(into, 0, way.text());
+    let at = put(into, at, b" kept ");
+    let at = put_number(into, at, position);
     put(into, at, b"\n")
 }
 
