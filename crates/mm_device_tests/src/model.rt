@@ -2,8 +2,9 @@
 
 use mm_base::{Memory, read_decimal};
 use mm_digest::{Digest, Variant};
-use mm_model::{Machine, Symbolic, Verdict};
+use mm_model::Verdict;
 use mm_module::{Batch, Counter};
+use mm_reference::{Machine, Symbolic};
 use std::alloc::Global;
 use std::test::Fail;
 

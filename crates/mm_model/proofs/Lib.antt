@@ -1,6 +1,5 @@
 pub mod Above
 mod Below
-mod Runs
 mod Paths
 mod Opt
 mod HistoryParts

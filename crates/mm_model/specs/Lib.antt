@@ -11,8 +11,6 @@ pub mod Steps
 pub mod Messages
 pub mod Standing
 pub mod Codes
-pub mod Run
-pub mod Examples
 pub mod Long
 pub mod Moves
 pub mod KeptHistory

@@ -4,10 +4,9 @@ ghost use Rattle.std.specs.Prelude.{◌≡◌, map, IfOk};
 ghost use Rattle.mm_module.specs.Batch.{normal_batch};
 ghost use Rattle.mm_module.specs.BatchWords.{has_tab};
 ghost use Rattle.mm_module.specs.Batches.{batch_of};
-ghost use Rattle.mm_model.specs.History.{items_of_all};
-ghost use Rattle.mm_model.specs.Life.{is_same_batch, has_value, are_own};
+ghost use Rattle.mm_model.specs.Life.{is_same_batch, has_value};
 ghost use Rattle.mm_model.specs.Verdicts.{is_last};
-ghost use Rattle.mm_model.specs.KeptHistory.{kept_batch, kept_batches, kept_entry, kept_entries, kept_segments, is_entry_of};
+ghost use Rattle.mm_model.specs.KeptHistory.{kept_batch, kept_batches, kept_entry, kept_entries};
 
 use mm_base::{Bytes, Memory};
 use mm_digest::Digest;
@@ -138,15 +137,6 @@ impl KeptEntry {
             KeptEntry::Value(value) => Ok(KeptEntry::Value(*value)),
         }
     }
-
-    fn stands_for(&self, batch: &KeptBatch) -> bool
-        ensures { result ≡ is_entry_of (kept_entry self.now) (kept_batch batch.now) }
-    {
-        match self {
-            KeptEntry::Own(own) => own.is(batch),
-            KeptEntry::Value(_) => false,
-        }
-    }
 }
 
 /// A copy of entries.
@@ -171,33 +161,6 @@ pub fn some_value(entries: &[KeptEntry]) -> bool
         }
     }
     false
-}
-
-/// Whether some segment holds a value that stands for no batch.
-pub(crate) fn some_segment_has_value(segments: &[Vec<KeptEntry>]) -> bool
-    ensures { result ≡ has_value (items_of_all (kept_segments segments.now)) }
-{
-    'segments: for segment in segments {
-        if some_value(segment.as_slice()) {
-            return true;
-        }
-    }
-    false
-}
-
-/// Whether the entries are those of the batches, one by one.
-pub(crate) fn all_own(entries: &[KeptEntry], batches: &[KeptBatch]) -> bool
-    ensures { result ≡ are_own (kept_entries entries.now) (kept_batches batches.now) }
-{
-    if entries.len() != batches.len() {
-        return false;
-    }
-    'entries: for i in 0..entries.len() {
-        if !entries[i].stands_for(&batches[i]) {
-            return false;
-        }
-    }
-    true
 }
 
 /// Whether the last of the batches is this one.

@@ -3,19 +3,15 @@
 #![tactic(auto)]
 
 mod answer;
-mod examples;
 mod hashes;
 mod kept;
 mod laws;
 mod long;
-mod machine;
 mod move_laws;
 mod refusal;
-mod symbolic;
 mod verdict;
 
 pub use answer::{Answer, BatchAnswer};
-pub use examples::{after_one_request, after_two_requests};
 pub use hashes::{guard, link};
 pub use kept::{KeptBatch, KeptEntry, copy_entries, last_is, normal, some_value};
 pub use laws::{
@@ -24,12 +20,10 @@ pub use laws::{
     opt_verdict_is_judged, registers_are_told_apart, summaries_are_told_apart, zero_is_lost,
 };
 pub use long::is_long;
-pub use machine::Machine;
 pub use move_laws::{
     answers_name_the_last_position, basic_messages_go_on, fresh_offers_list_their_batch,
     moves_are_device_steps, moves_keep_histories_sound, moves_keep_names,
     moves_keep_values_outside, opt_messages_go_on, whole_commits_are_moves,
 };
 pub use refusal::Refusal;
-pub use symbolic::Symbolic;
 pub use verdict::Verdict;

@@ -1,5 +1,7 @@
-use Rattle.mm_model.proofs.Below.{◌≡◌, drop, are_own, kept_entries, kept_batches}
-use Rattle.mm_model.proofs.kept.all_own.Given as goal
+use Rattle.std.proofs.Common.{◌≡◌, drop}
+use Rattle.mm_model.specs.Life.{are_own}
+use Rattle.mm_model.specs.KeptHistory.{kept_batches, kept_entries}
+use Rattle.mm_reference.proofs.entries.all_own.Given as goal
 
 abbrev pub invariant-entries : goal.invariant-entries
 invariant-entries l =

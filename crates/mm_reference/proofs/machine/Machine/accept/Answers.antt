@@ -1,6 +1,6 @@
 use Rattle.std.proofs.Common.{◌∙◌}
-use Rattle.mm_model.proofs.Runs.{spelled_at, IsStateOfRun-push}
-use Rattle.mm_model.proofs.machine.Machine.accept.Goals as goal
+use Rattle.mm_reference.proofs.Runs.{spelled_at, IsStateOfRun-push}
+use Rattle.mm_reference.proofs.machine.Machine.accept.Goals as goal
 
 pub step-requires-clause-spelled : goal.step-requires-clause-spelled
 step-requires-clause-spelled g c =

@@ -1,6 +1,6 @@
 -- A run of a module on a list of requests.
 use Rattle.std.specs.Prelude.{ℕ, List, ◌≡◌}
-use Rattle.mm_model.specs.Below.{Meaning, state_after, last_output_after}
+use Rattle.mm_module.specs.Meaning.{Meaning, state_after, last_output_after}
 
 -- a module, and the requests that it ran
 pub record Run (M : Type 0) : Type 0 where

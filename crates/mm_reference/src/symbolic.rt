@@ -9,10 +9,10 @@ ghost use Rattle.mm_model.specs.History.{Foreign, Reset, Close, Power, first_his
 ghost use Rattle.mm_model.specs.Verdicts.{verdict_on};
 ghost use Rattle.mm_model.specs.CommitMoves.{with_batch};
 
-use crate::kept::{self, KeptBatch, KeptEntry};
-use crate::verdict::Verdict;
+use crate::entries::{all_own, some_segment_has_value};
 use mm_base::Memory;
 use mm_digest::{Digest, Variant};
+use mm_model::{KeptBatch, KeptEntry, Verdict, copy_entries, last_is, normal};
 use mm_module::Batch;
 use std::alloc::Global;
 use std::marker::Model;
@@ -77,7 +77,7 @@ impl Symbolic {
             ≡ with_batch self.old.variant self.old.history (normal_batch (batch_of batch.entry))) }
         ensures err { OnErr result (self.new.history ≡ self.old.history) }
     {
-        let batch = kept::normal(batch);
+        let batch = normal(batch);
         let Some(requests) = self.requests.checked_add(batch.len() as u64) else {
             return Err(Memory);
         };
@@ -165,7 +165,7 @@ impl Symbolic {
             → OnOk result (self.new.history ≡ history_after i self.old.history Close) }
         ensures err { OnErr result (self.new.history ≡ self.old.history) }
     {
-        let segment = kept::copy_entries(self.alloc, self.items.as_slice())?;
+        let segment = copy_entries(self.alloc, self.items.as_slice())?;
         self.closed.push(segment)?;
         self.current.clear();
         self.is_open = false;
@@ -194,7 +194,7 @@ impl Symbolic {
         ensures { result ≡ verdict_on self.now.variant self.now.history position
             (normal_batch (batch_of batch.entry)) }
     {
-        let batch = kept::normal(batch);
+        let batch = normal(batch);
         match self.variant {
             Variant::Basic => self.judge_live(position, &batch),
             Variant::Opt => self.judge_opt(position, &batch),
@@ -209,11 +209,11 @@ impl Symbolic {
             if self.items.is_empty() {
                 return Verdict::Lost;
             }
-            if !kept::all_own(self.items.as_slice(), self.current.as_slice()) {
+            if !all_own(self.items.as_slice(), self.current.as_slice()) {
                 return Verdict::Stale;
             }
         }
-        if kept::some_segment_has_value(self.closed.as_slice()) {
+        if some_segment_has_value(self.closed.as_slice()) {
             return Verdict::Stale;
         }
         self.judge_live(position, batch)
@@ -232,7 +232,7 @@ impl Symbolic {
         if before != position {
             return Verdict::Stale;
         }
-        if kept::last_is(self.batches.as_slice(), batch) {
+        if last_is(self.batches.as_slice(), batch) {
             Verdict::Again
         } else {
             Verdict::Stale

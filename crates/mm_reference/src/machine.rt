@@ -19,7 +19,7 @@ pub struct Machine<M: Module + Drop> {
 }
 
 impl<M: Module + Drop> Model for Machine<M> {
-    ghost use Rattle.mm_model.specs.Run.{Run, IsStateOfRun};
+    ghost use Rattle.mm_reference.specs.Run.{Run, IsStateOfRun};
 
     ghost Value = { Run M };
 

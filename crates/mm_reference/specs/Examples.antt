@@ -1,6 +1,8 @@
 -- Small histories, and what is said of each of their positions.
 use Rattle.std.specs.Prelude.{ℕ, zero, suc, List, [], ◌∷◌, map, ◌++◌}
-use Rattle.mm_model.specs.Below.{Variant, Basic, Batch, One}
+use Rattle.mm_digest.specs.declared.variant.Variant.{Variant}
+use Rattle.mm_digest.specs.declared.variant.Variant.TheVariants.{Basic}
+use Rattle.mm_module.specs.Batch.{Batch, One}
 use Rattle.mm_model.specs.History.{History, first_history, total_of}
 use Rattle.mm_model.specs.Verdicts.{verdict_on}
 use Rattle.mm_model.specs.declared.verdict.Verdict.{Verdict}

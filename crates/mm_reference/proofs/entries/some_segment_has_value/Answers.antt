@@ -1,6 +1,8 @@
-use Rattle.mm_model.proofs.Below.{◌∙◌, sym, ap, has_value, kept_entries}
-use Rattle.mm_model.proofs.KeptLaws.{segment_tells}
-use Rattle.mm_model.proofs.kept.some_segment_has_value.Goals as goal
+use Rattle.std.proofs.Common.{◌∙◌, sym, ap}
+use Rattle.mm_model.specs.Life.{has_value}
+use Rattle.mm_model.specs.KeptHistory.{kept_entries}
+use Rattle.mm_reference.proofs.EntryLaws.{segment_tells}
+use Rattle.mm_reference.proofs.entries.some_segment_has_value.Goals as goal
 
 pub returns-then-some_value : goal.returns-then-some_value
 returns-then-some_value c =

@@ -1,7 +1,9 @@
 -- A machine that runs one more request.
-use Rattle.mm_model.proofs.Below.{ℕ, ◌≡◌, List, [], ◌∷◌, ◌++◌, sym, ◌∙◌, subst, IsTrue, Meaning, IsLawful, state_after}
+use Rattle.std.specs.Prelude.{IsTrue}
+use Rattle.std.proofs.Common.{ℕ, ◌≡◌, List, [], ◌∷◌, ◌++◌, sym, ◌∙◌, subst}
+use Rattle.mm_module.specs.Meaning.{IsLawful, Meaning, state_after}
 use Rattle.mm_module.specs.RunLaws.{state_after-push, last_output_after-push, state_after-is_spelled}
-use Rattle.mm_model.specs.Run.{IsStateOfRun}
+use Rattle.mm_reference.specs.Run.{IsStateOfRun}
 
 -- the state that a machine passes to its module is spelled
 pub spelled_at : (meaning : Meaning) → IsLawful meaning → (requests : List (List ℕ)) (state seen : List ℕ)
