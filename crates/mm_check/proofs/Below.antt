@@ -56,11 +56,11 @@ pub use Rattle.mm_check.specs.CheckStage.{compared_run_after, AtHeader, check_an
 pub use Rattle.mm_check.specs.CheckStage.{first_compared_run, first_recorded_run, answer_to_header, InEvents, InReplies, is_line}
 pub use Rattle.mm_check.specs.CheckStage.{RecordedRun, answer_to_line, with_event}
 pub use Rattle.mm_check.specs.PremiseDecision.{IsFirstForged, premise_by, StandsBehind}
-pub use Rattle.mm_check.specs.Guards.{digest_items, events_of, HasAll, secured_event_by}
-pub use Rattle.mm_check.specs.Listing.{pair_plus_one, first_number_of, number_of_first, is_zero, messages_with, lower_pair, message_digests}
-pub use Rattle.mm_check.specs.Listing.{shared_pair_in, shared_pair_with, zero_number_in}
-pub use Rattle.mm_check.specs.Lists.{CountsDigests, has_message, ListsMessages, pair_of}
-pub use Rattle.mm_check.specs.Numbering.{DecidesPremise, expected_lines, is_secured, IsForgedAt, lines_of_all, numbered_messages}
+pub use Rattle.mm_numbering.specs.Guards.{digest_items, events_of, HasAll, is_secured, secured_event_by}
+pub use Rattle.mm_numbering.specs.Listing.{pair_plus_one, first_number_of, number_of_first, is_zero, messages_with, lower_pair, message_digests}
+pub use Rattle.mm_numbering.specs.Listing.{shared_pair_in, shared_pair_with, zero_number_in}
+pub use Rattle.mm_numbering.specs.Lists.{CountsDigests, has_message, ListsMessages, pair_of}
+pub use Rattle.mm_check.specs.Numbering.{DecidesPremise, expected_lines, IsForgedAt, lines_of_all, numbered_messages}
 pub use Rattle.mm_check.specs.Numbering.{numbered_messages_from, secured_event_in, PremiseIsFixed}
 pub use Rattle.mm_check.specs.Verdicts.{agreement_of, AreVerdicts, AreVerdictsOn, StageConcludes, difference_from, end_difference}
 pub use Rattle.mm_check.specs.Verdicts.{first_difference, is_found, run_lines, RunsBehind}

@@ -17,7 +17,7 @@ use Rattle.std.proofs.lemmas.List.Elements.{All-contains, All-from_recursion}
 use Rattle.std.proofs.lemmas.Map.Keys.{IsDistinct-head, IsDistinct-push, IsDistinct-tail}
 use Rattle.std.proofs.lemmas.Map.Views.{Contains-from_any}
 use Rattle.mm_check.proofs.Below.{any_in, any_some}
-use Rattle.mm_check.proofs.SetLaws.{or_swap}
+use Rattle.mm_numbering.proofs.SetLaws.{or_swap}
 
 none_in : (m : List ℕ) → Contains [] m → ⊥
 none_in m h = let few = h.1 in absurd (omega arith)

@@ -1,7 +1,4 @@
 mod Below
-mod ListingLaws
-mod SetLaws
-mod GuardLaws
 mod ClearLaws
 mod FewLaws
 mod DecidingLaws

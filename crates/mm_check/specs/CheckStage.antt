@@ -1,12 +1,12 @@
 -- A recorded run line by line: the header, the events, and at will the line `replies` and the
 -- recorded lines.
-use Rattle.std.specs.Prelude.{ℕ, ◌+◌, ◌-◌, Bool, false, nat_le, not, List, [], ◌∷◌, ◌++◌, codes, length, Option, None, Some, Result, Ok}
+use Rattle.std.specs.Prelude.{ℕ, ◌+◌, ◌-◌, Bool, false, nat_le, not, List, [], ◌∷◌, ◌++◌, codes, Option, None, Some, Result, Ok}
 use Rattle.std.specs.Prelude.{Err, if◌then◌else◌}
 use Rattle.std.specs.List.{slice_get}
 use Rattle.std.specs.Str.{bytes_eq}
 use Rattle.mm_check.specs.Below.{most_events, Event, event_at, lines_of_reply, Header, world_of, RunningReplay, first_running_replay}
 use Rattle.mm_check.specs.Below.{running_outcome, running_replay_after, is_too_much, LineRefusal, Bad, Much}
-use Rattle.mm_check.specs.Listing.{first_number_of}
+use Rattle.mm_numbering.specs.Listing.{first_number_of}
 use Rattle.mm_check.specs.Numbering.{expected_lines}
 
 -- the line between the events and the recorded lines

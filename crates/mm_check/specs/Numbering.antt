@@ -1,13 +1,13 @@
 -- The premises of the headline for a run of events, as they are told: by the numbers of messages
 -- and of events.
-use Rattle.std.specs.Prelude.{◌≡◌, ℕ, ◌+◌, Bool, List, [], ◌∷◌, ◌++◌, length, Option, None, Some}
-use Rattle.std.specs.List.{flat_map, fold, list_any}
-use Rattle.std.specs.Str.{bytes_eq}
+use Rattle.std.specs.Prelude.{◌≡◌, ℕ, ◌+◌, List, [], ◌∷◌, ◌++◌, length, Option, None, Some}
+use Rattle.std.specs.List.{flat_map, fold}
 use Rattle.mm_check.specs.Below.{start_message, Opt, own_values, History, first_history, total_of, Instance, IsClear, list_level, Event}
 use Rattle.mm_check.specs.Below.{lines_of_reply, end_line, Reply, RunOutcome, event_outcome, first_snapshots, outcome_by_lists}
-use Rattle.mm_check.specs.Below.{event_foreign_values, IsClearRun, IsGenuineEvent, IsGenuineRun, asked_batches, run_messages}
+use Rattle.mm_check.specs.Below.{IsClearRun, IsGenuineEvent, IsGenuineRun, asked_batches, run_messages}
 use Rattle.mm_check.specs.Below.{numbered_event_messages}
-use Rattle.mm_check.specs.Listing.{number_of_first, messages_with, message_digests, shared_pair_in, zero_number_in}
+use Rattle.mm_numbering.specs.Guards.{is_secured}
+use Rattle.mm_numbering.specs.Listing.{number_of_first, messages_with, message_digests, shared_pair_in, zero_number_in}
 use Rattle.mm_check.specs.declared.verdicts.Premise.{Premise}
 use Rattle.mm_check.specs.declared.verdicts.Premise.TheVariants.{Held, Shared, Zero, Secured, Forged}
 
@@ -23,10 +23,6 @@ abbrev pub numbered_messages : Instance → List Event → List (List ℕ)
 numbered_messages i events =
     fold messages_with (start_message i.variant i.meaning.id ∷ [])
     (numbered_messages_from i first_history (first_snapshots i) events)
-
--- others extend the register by a value that is one of these guards
-abbrev pub is_secured : List (List ℕ) → Event → Bool
-is_secured guards event = list_any (λ v. list_any (bytes_eq v) guards) (event_foreign_values event)
 
 -- the number, from 1, of the first event at which they do so by the guard of a batch that the run
 -- asks

@@ -2,7 +2,7 @@
 use Rattle.std.specs.Prelude.{◌≡◌, ℕ, ◌+◌, ◌≤◌, List, [], ◌∷◌, ◌++◌, length, Option, None, Some}
 use Rattle.mm_check.specs.Below.{Instance, Event, Header, outcome_by_lists, world_of, IsGenuineRun, IsAfter}
 use Rattle.mm_expect.specs.ExpectedState.{ExpectedState}
-use Rattle.mm_check.specs.Lists.{ListsMessages}
+use Rattle.mm_numbering.specs.Lists.{ListsMessages}
 use Rattle.mm_check.specs.Numbering.{numbered_messages, lines_of_all, IsForgedAt, DecidesPremise, expected_lines}
 use Rattle.mm_check.specs.declared.deciding.Decider.{Decider}
 use Rattle.mm_check.specs.declared.deciding.Decision.{Decision}

@@ -3,7 +3,7 @@ use Rattle.std.specs.Prelude.{◌≡◌, ℕ, ◌+◌, ◌≤◌, Bool, false, n
 use Rattle.std.specs.Fmt.{decimal}
 use Rattle.std.specs.Str.{bytes_eq}
 use Rattle.mm_check.specs.Below.{most_events, Instance, Event, Header, outcome_by_digests, world_of, RunningReplay}
-use Rattle.mm_check.specs.Listing.{first_number_of}
+use Rattle.mm_numbering.specs.Listing.{first_number_of}
 use Rattle.mm_check.specs.Numbering.{DecidesPremise, lines_of_all, lines_with, expected_lines}
 use Rattle.mm_check.specs.CheckStage.{ComparedRun, CheckStage, AtHeader, InEvents, InReplies}
 use Rattle.mm_check.specs.declared.verdicts.Premise.{Premise}

@@ -5,10 +5,10 @@ ghost use Rattle.mm_check.specs.CheckStage.{ComparedRun, InReplies, answer_to_re
 ghost use Rattle.mm_check.specs.Verdicts.{AreVerdictsOn, agreement_of};
 ghost use Rattle.mm_check.specs.Steps.{LineComesTo};
 
-use crate::difference::first_then;
 use crate::reading::ScheduleReader;
 use crate::verdicts::{Agreement, Premise, Verdicts};
 use mm_base::{Bytes, Memory};
+use mm_numbering::first_then;
 use mm_play::{LineRefusal, ReplyFault};
 use mm_schedule::{Event, Header};
 use std::alloc::Global;
@@ -32,7 +32,7 @@ pub(crate) struct Comparison {
 }
 
 impl Model for Comparison {
-    ghost use Rattle.mm_check.specs.Guards.{events_of};
+    ghost use Rattle.mm_numbering.specs.Guards.{events_of};
     ghost use Rattle.mm_check.specs.CheckStage.{ComparedRun};
     ghost use Rattle.mm_check.specs.Verdicts.{IsComparing};
 

@@ -2,18 +2,17 @@
 
 ghost use Rattle.std.specs.Prelude.{◌≡◌, ◌+◌, ◌<◌, ◌≤◌, [], length, take, IfOk, OnOk};
 ghost use Rattle.mm_base.specs.Limits.{most_events};
-ghost use Rattle.mm_check.specs.Guards.{events_of};
-ghost use Rattle.mm_check.specs.Lists.{pair_of};
+ghost use Rattle.mm_numbering.specs.Guards.{events_of};
+ghost use Rattle.mm_numbering.specs.Lists.{pair_of};
 ghost use Rattle.mm_schedule.specs.Events.{event_of};
 ghost use Rattle.mm_check.specs.PremiseDecision.{LooksAtEvent, StandsBehind, DecidesRun, premise_by};
 
-use crate::guards::first_secured;
 use crate::lines::{put_last, put_reply};
-use crate::messages::Numbers;
 use crate::verdicts::Premise;
 use mm_base::{Bytes, Memory};
 use mm_expect::Expectation;
 use mm_module::Module;
+use mm_numbering::{Numbers, first_secured};
 use mm_schedule::{Event, Header};
 use std::alloc::Global;
 

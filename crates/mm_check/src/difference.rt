@@ -1,21 +1,10 @@
 //! The first line in which two lists differ.
 
 ghost use Rattle.std.specs.Prelude.{◌≡◌, ◌+◌, ◌-◌, ◌<◌, ◌^◌, length, slice_get};
-ghost use Rattle.mm_check.specs.Listing.{first_number_of};
 ghost use Rattle.mm_check.specs.Verdicts.{agreement_of, first_difference, is_found};
 
 use crate::verdicts::Agreement;
 use mm_base::Bytes;
-
-/// The first number that is found, once this one is found or not.
-pub(crate) fn first_then(first: Option<u32>, is_found: bool, number: u32) -> Option<u32>
-    ensures { result ≡ first_number_of first is_found number }
-{
-    match first {
-        Some(first) => Some(first),
-        None => if is_found { Some(number) } else { None },
-    }
-}
 
 /// Whether the line of this index is there and is this one.
 fn is_at(lines: &[Bytes], index: usize, line: &[u8]) -> bool

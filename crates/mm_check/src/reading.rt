@@ -8,7 +8,7 @@ ghost use Rattle.mm_outcome.specs.WorldState.{world_of};
 ghost use Rattle.mm_check.specs.CheckStage.{RecordedRun, InEvents, first_recorded_run, answer_to_event};
 ghost use Rattle.mm_check.specs.Verdicts.{AreVerdicts, run_lines};
 ghost use Rattle.mm_check.specs.Steps.{LineComesTo, IsEventOf};
-ghost use Rattle.mm_check.specs.Guards.{events_of};
+ghost use Rattle.mm_numbering.specs.Guards.{events_of};
 ghost use Rattle.mm_check.specs.PremiseDecision.{DecidesRun};
 
 use crate::deciding::{Decision, decide};
@@ -33,7 +33,7 @@ pub(crate) struct ScheduleReader {
 
 impl Model for ScheduleReader {
     ghost use Rattle.mm_replay.specs.Progress.{running_replay};
-    ghost use Rattle.mm_check.specs.Guards.{events_of};
+    ghost use Rattle.mm_numbering.specs.Guards.{events_of};
     ghost use Rattle.mm_check.specs.CheckStage.{RecordedRun};
     ghost use Rattle.mm_check.specs.Verdicts.{RunsBehind};
 

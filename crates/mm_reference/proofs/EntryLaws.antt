@@ -1,6 +1,6 @@
 -- Loops over a register's entries.
 use Rattle.std.specs.Prelude.{Vec}
-use Rattle.std.proofs.Common.{ℕ, ◌≡◌, ◌+◌, ◌<◌, Bool, true, false, ◌&&◌, ◌||◌, List, [], ◌∷◌, ◌++◌, length, drop, map}
+use Rattle.std.proofs.Common.{ℕ, ◌≡◌, ◌+◌, ◌<◌, Bool, true, false, ◌||◌, List, [], ◌∷◌, ◌++◌, length, drop}
 use Rattle.std.proofs.Common.{get_or, refl, sym, ap, ◌∙◌, arith}
 use Rattle.std.proofs.lemmas.Bool.{and_parts, false_from_ne_true}
 use Rattle.std.proofs.lemmas.List.{drop_more, length-map}
@@ -8,7 +8,7 @@ use Rattle.mm_module.specs.Batch.{Batch}
 use Rattle.mm_model.specs.History.{RegisterEntry, items_of_all}
 use Rattle.mm_model.specs.History as own
 use Rattle.mm_model.specs.HistoryLaws.{has_value-append}
-use Rattle.mm_model.specs.KeptHistory.{kept_batches, kept_entries, kept_segments}
+use Rattle.mm_model.specs.KeptHistory.{kept_batch, kept_batches, kept_entries, kept_entry, kept_segments}
 use Rattle.mm_model.specs.Life.{is_same_batch, has_value, are_own}
 use Rattle.mm_model.specs.SegmentLaws.{true_not_false}
 use Rattle.mm_model.specs.declared.kept.KeptBatch.{KeptBatch}

@@ -1,9 +1,9 @@
-use Rattle.mm_check.proofs.Below.{◌∙◌, ℕ, ◌≡◌, ◌+◌, List, length, take, ap, subst, arith, length-map, length-take, fold, world_of, Event}
+use Rattle.mm_check.proofs.Below.{ℕ, ◌≡◌, ◌+◌, List, length, take, ap, subst, arith, length-map, length-take, fold, world_of, Event}
 use Rattle.mm_check.proofs.Below.{event_of, events_of, messages_with, ListsMessages, numbered_messages, StandsBehind}
 use Rattle.mm_check.specs.PremiseDecision.{LooksAtEvent}
 use Rattle.mm_check.specs.declared.deciding.Decider.{Decider}
 use Rattle.mm_check.proofs.DecidingLaws.{heard_after, room_for, stands_next}
-use Rattle.mm_check.proofs.GuardLaws.{events_more}
+use Rattle.mm_numbering.proofs.GuardLaws.{events_more}
 use Rattle.mm_check.proofs.deciding.Decider.follow_event.Goals as goal
 
 pub list_all-requires : goal.list_all-requires

@@ -1,5 +1,0 @@
-use Rattle.mm_check.proofs.Below.{take, own_values, world_barrier, asked_batches, events_of, HasAll}
-use Rattle.mm_check.proofs.guards.guards_of.Given as goal
-
-abbrev pub invariant-events : goal.invariant-events
-invariant-events l = HasAll (own_values world_barrier (asked_batches (events_of (take l.event-index l.events)))) l.guards

@@ -1,0 +1,4 @@
+mod Below
+mod ListingLaws
+pub mod SetLaws
+pub mod GuardLaws

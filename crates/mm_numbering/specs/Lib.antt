@@ -1,0 +1,4 @@
+pub mod Below
+pub mod Listing
+pub mod Lists
+pub mod Guards

@@ -1,0 +1,105 @@
+//! The digests of messages by their numbers.
+
+ghost use Rattle.std.specs.Prelude.{◌≡◌, ◌+◌, ◌-◌, ◌<◌, ◌≤◌, ◌^◌, ◌++◌, [], ◌∷◌, ℕ, List, Option, OnOk, if◌then◌else◌};
+ghost use Rattle.std.specs.BTreeMap.{get};
+ghost use Rattle.std.specs.Cmp.Lexicographic.{slice_cmp};
+ghost use Rattle.std.specs.Ordering.{nat_cmp, is_eq};
+ghost use Rattle.mm_numbering.specs.Listing.{first_number_of, is_zero, lower_pair};
+ghost use Rattle.mm_numbering.specs.Lists.{pair_of, CountsDigests};
+
+use mm_base::Memory;
+use mm_digest::{Digest, zero};
+use std::alloc::Global;
+use std::collections::BTreeMap;
+
+/// The first number that is found, once this one is found or not.
+pub fn first_then(first: Option<u32>, is_found: bool, number: u32) -> Option<u32>
+    ensures { result ≡ first_number_of first is_found number }
+{
+    match first {
+        Some(first) => Some(first),
+        None => if is_found { Some(number) } else { None },
+    }
+}
+
+/// Two numbers of messages.
+#[derive(Clone, Copy, Debug, PartialEq, Eq)]
+pub struct NumberPair {
+    pub first: u32,
+    pub second: u32,
+}
+
+/// The digests listed so far, by the number of the first message of each; how many messages there
+/// are; the first two that share a digest; and the first whose digest is zero.
+#[derive(Drop)]
+pub struct DigestIndex {
+    firsts: BTreeMap<[u8; 32], u32>,
+    pub count: u32,
+    pub shared: Option<NumberPair>,
+    pub zero: Option<u32>,
+}
+
+/// The pair after a message of this number, where the first one of its digest has that number.
+fn lower(shared: Option<NumberPair>, first: u32, second: u32) -> Option<NumberPair>
+    ensures { pair_of result ≡ lower_pair (pair_of shared) first second }
+{
+    match shared {
+        Some(pair) => if first < pair.first {
+            Some(NumberPair { first, second })
+        } else {
+            Some(pair)
+        },
+        None => Some(NumberPair { first, second }),
+    }
+}
+
+fn is_zero(digest: &Digest) -> bool
+    ensures { result ≡ is_zero digest.now.bytes }
+{
+    *digest == zero()
+}
+
+/// Notes this number at a digest.
+fn put(firsts: &mut BTreeMap<[u8; 32], u32>, digest: [u8; 32], number: u32) -> Result<(), Memory>
+    ensures { OnOk result ((d : List ℕ) → get (slice_cmp nat_cmp) firsts.new d
+        ≡ (if is_eq (slice_cmp nat_cmp digest d) then Some number
+        else get (slice_cmp nat_cmp) firsts.old d)) }
+{
+    match firsts.insert(digest, number) {
+        Ok(_) => Ok(()),
+        Err(_) => Err(Memory),
+    }
+}
+
+impl DigestIndex {
+    /// None so far. Takes no memory.
+    pub fn new(alloc: Global) -> DigestIndex
+        ensures { CountsDigests [] result }
+    {
+        DigestIndex {
+            firsts: BTreeMap::new(alloc),
+            count: 0,
+            shared: None,
+            zero: None,
+        }
+    }
+
+    /// One more message, with this digest.
+    pub fn add(&mut self, digest: Digest) -> Result<(), Memory>
+        requires { self.old.count < 2 ^ 32 - 1 }
+        ensures rises { self.new.count ≤ self.old.count + 1 }
+        ensures counts { (digests : List (List ℕ)) → CountsDigests digests self.old
+            → OnOk result (CountsDigests (digests ++ digest.bytes ∷ []) self.new) }
+    {
+        let number = self.count + 1;
+        match self.firsts.get(&digest.bytes) {
+            Some(first) => self.shared = lower(self.shared, *first, number),
+            None => {
+                put(&mut self.firsts, digest.bytes, number)?;
+            }
+        }
+        self.zero = first_then(self.zero, is_zero(&digest), number);
+        self.count = number;
+        Ok(())
+    }
+}

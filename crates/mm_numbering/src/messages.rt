@@ -1,0 +1,80 @@
+//! Messages with their numbers.
+
+ghost use Rattle.std.specs.Prelude.{◌≡◌, ◌+◌, ◌-◌, ◌<◌, ◌≤◌, ◌^◌, ◌||◌, not, ℕ, List, [], length, IfOk, OnOk};
+ghost use Rattle.std.specs.List.{fold};
+ghost use Rattle.std.specs.Str.{bytes_eq};
+ghost use Rattle.sha2.specs.Sha256.{sha256};
+ghost use Rattle.mm_numbering.specs.Listing.{messages_with};
+ghost use Rattle.mm_numbering.specs.Lists.{has_message, ListsMessages};
+
+use crate::digests::DigestIndex;
+use mm_base::{Bytes, Memory};
+use mm_digest::Digest;
+use sha2::{Digest as _, Sha256};
+use std::alloc::Global;
+use std::collections::BTreeSet;
+
+/// The messages listed so far, each once.
+#[derive(Drop)]
+pub struct Numbers {
+    seen: BTreeSet<Vec<u8>>,
+    pub digests: DigestIndex,
+}
+
+fn digest_of(message: &[u8]) -> Digest
+    ensures { result.bytes ≡ sha256 message.now }
+{
+    Digest {
+        bytes: Sha256::digest(message),
+    }
+}
+
+/// Keeps a message, and answers whether it is a new one.
+fn keep(seen: &mut BTreeSet<Vec<u8>>, alloc: Global, message: &[u8]) -> Result<bool, Memory>
+    ensures new { IfOk result (λ is_new. is_new ≡ not (has_message seen.old.keys message.now)) }
+    ensures has { OnOk result ((m : List ℕ)
+        → has_message seen.new.keys m ≡ (bytes_eq m message.now || has_message seen.old.keys m)) }
+{
+    let key = Vec::from_slice(alloc, message)?;
+    let Ok(is_new) = seen.insert(key) else {
+        return Err(Memory);
+    };
+    Ok(is_new)
+}
+
+impl Numbers {
+    /// None so far. Takes no memory.
+    pub fn new(alloc: Global) -> Numbers
+        ensures { ListsMessages [] result }
+    {
+        Numbers {
+            seen: BTreeSet::new(alloc),
+            digests: DigestIndex::new(alloc),
+        }
+    }
+
+    /// Lists a message, if it hasn't come before.
+    pub fn list(&mut self, alloc: Global, message: &[u8]) -> Result<(), Memory>
+        requires { self.old.digests.count < 2 ^ 32 - 1 }
+        ensures lists { (seen : List (List ℕ)) → ListsMessages seen self.old
+            → OnOk result (ListsMessages (messages_with seen message.now) self.new) }
+        ensures rises { self.new.digests.count ≤ self.old.digests.count + 1 }
+    {
+        if keep(&mut self.seen, alloc, message)? {
+            return self.digests.add(digest_of(message));
+        }
+        Ok(())
+    }
+
+    /// Lists these messages, one after another.
+    pub fn list_all(&mut self, alloc: Global, messages: &[Bytes]) -> Result<(), Memory>
+        requires { self.old.digests.count + length messages.now < 2 ^ 32 - 1 }
+        ensures { (seen : List (List ℕ)) → ListsMessages seen self.old
+            → OnOk result (ListsMessages (fold messages_with seen messages.now) self.new) }
+    {
+        'messages: for message in messages {
+            self.list(alloc, message.as_slice())?;
+        }
+        Ok(())
+    }
+}
