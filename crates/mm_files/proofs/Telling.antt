@@ -1,10 +1,11 @@
--- What a step of the register does to what is told, where no content is.
-use Rattle.std.proofs.Common.{◌≡◌, ℕ, true, [], refl, arith}
+-- What a step of the register and a write of the memory do to what is told, where no content is.
+use Rattle.std.proofs.Common.{◌≡◌, ℕ, List, true, [], refl, arith}
 use Rattle.std.specs.Prelude.{None, Result, Ok, Err, IfErr}
 use Rattle.std.specs.Result.{result_err}
 use Rattle.mm_base.specs.Faults.{next_count, CountsFaults}
 use Rattle.mm_platform.specs.declared.fault.StepFault.{StepFault}
 use Rattle.mm_platform.specs.declared.fault.StepFault.TheVariants as step
+use Rattle.mm_platform.specs.Raw.{WritesRaw}
 use Rattle.mm_platform.specs.Steps.{Act, ReadCell, WriteCell, ReadRegister, ResetRegister, ExtendRegister, DeviceStepEnds, StepGoes}
 use Rattle.mm_platform.specs.Steps.{items_beside, cell_after, items_after, writes_after}
 use Rattle.mm_files.specs.UntoldDevices.{untold_standing}
@@ -53,4 +54,19 @@ goes_untold act steps steps' cycles cycles' faults faults' result one same write
   plan = refl;
   ends = ends_untold steps steps' cycles cycles' faults faults' result counts failed;
   told = λ plan told. absurd (cc);
+}
+
+-- a write of the memory
+pub writes_untold : {T : Type 0} (at : ℕ) (bytes : List ℕ) (steps cycles faults faults' : ℕ) (result : Result T StepFault)
+    → CountsFaults faults faults' result → IsFailed result
+    → WritesRaw at bytes (untold_standing steps cycles faults) (untold_standing steps cycles faults') (result_err result)
+writes_untold at bytes steps cycles faults faults' result counts failed = record {
+  written = bytes;
+  size = refl;
+  cell = refl;
+  whole = λ done. refl;
+  still = λ off. refl;
+  rest = record { others = []; items = refl; steps = refl; writes = refl; cycles = refl; room = omega arith; plan = refl };
+  is_made = true;
+  ends = ends_untold steps steps cycles cycles faults faults' result counts failed;
 }

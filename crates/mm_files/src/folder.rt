@@ -1,18 +1,17 @@
 //! The files `nv` and `register`.
 
-use crate::disk::{OpenedFile, replace};
+use crate::cause::{Cause, named};
 use crate::kept::KeptFile;
 use crate::lock::Lock;
-use crate::place::sync_folder;
-use crate::reason::{HERE, Reason, named};
-use mm_digest::{Digest, extended, zero};
+use crate::name::FileName;
+use mm_digest::{Digest, extended};
 use std::fs::{self, OpenFile};
 use std::io::{self, ErrorKind};
 use std::os::unix::fs::FileExt;
 use std::rt::Files;
 
 /// The bytes of `nv`: two cells and a selector.
-const WHOLE: usize = 209;
+pub const WHOLE: usize = 209;
 
 /// Where the selector is.
 const SELECTOR: u16 = 208;
@@ -21,176 +20,189 @@ const SELECTOR: u16 = 208;
 /// this program, whoever wrote it: a program that was stopped may have left bytes that the system
 /// shows and the disk hasn't.
 #[derive(Drop)]
-pub struct Folder<'a, R: Files> {
-    files: &'a R,
-    lock: Option<R::File>,
-    nv: KeptFile<'a, R>,
-    register: KeptFile<'a, R>,
-    // What was read of `nv` with the selector, for the next read.
-    seen: Option<[u8; WHOLE]>,
+pub struct Folder<F> {
+    lock: Option<F>,
+    nv: KeptFile<F>,
+    register: KeptFile<F>,
+    // The file that is to be the register's.
+    new_register: KeptFile<F>,
+    /// What was read of `nv`.
+    pub bytes: [u8; WHOLE],
+    // Whether it was read with the selector, for the next read.
+    is_seen: bool,
 }
 
-impl<'a, R: Files> Folder<'a, R>
-where
-    R::File: Lock + FileExt,
-{
-    pub fn new(files: &'a R) -> Folder<'a, R> {
+impl<F: Lock + OpenFile + FileExt + Drop> Folder<F> {
+    /// The current directory, in which nothing is opened yet.
+    pub fn new() -> Folder<F> {
         Folder {
-            files,
             lock: None,
-            nv: KeptFile::new(files, "nv"),
-            register: KeptFile::new(files, "register"),
-            seen: None,
+            nv: KeptFile::new(FileName::Nv),
+            register: KeptFile::new(FileName::Register),
+            new_register: KeptFile::new(FileName::NewRegister),
+            bytes: [0; WHOLE],
+            is_seen: false,
         }
     }
 
     // Locks the folder, where that isn't done, and lets what an earlier program left of both files,
     // and their names, be on the disk.
-    fn enter(&mut self) -> Result<(), Reason> {
+    fn enter<R: Files<File = F>>(&mut self, files: &R) -> Result<(), Cause> {
         if self.lock.is_some() {
             return Ok(());
         }
-        let folder = named(HERE, fs::open(self.files, "."))?;
+        let folder = named(FileName::Here, fs::open(files, "."))?;
+        let outcome = self.enter_by(files, &folder);
+        if outcome.is_ok() {
+            self.lock = Some(folder);
+        } else {
+            self.register.close();
+            self.nv.close();
+        }
+        outcome
+    }
+
+    // Does so by this folder, which was just opened.
+    fn enter_by<R: Files<File = F>>(&mut self, files: &R, folder: &F) -> Result<(), Cause> {
         locked(folder.lock_alone())?;
-        let nv = synced(&mut self.nv)?;
-        let register = synced(&mut self.register)?;
-        named(HERE, folder.sync_all())?;
-        keep_listed(&mut self.nv, nv);
-        keep_listed(&mut self.register, register);
-        self.lock = Some(folder);
+        open_synced(&mut self.nv, files)?;
+        open_synced(&mut self.register, files)?;
+        named(FileName::Here, folder.sync_all())?;
+        self.nv.set_listed();
+        self.register.set_listed();
         Ok(())
     }
 
-    /// The bytes of `nv`. Those past its end are zero, and all where it is absent. They are read
-    /// with the selector, and the next read has these.
-    pub fn nv(&mut self, at: u16) -> Result<[u8; WHOLE], Reason> {
-        let seen = self.seen.take();
-        if at == SELECTOR {
-            let bytes = self.read_nv()?;
-            self.seen = Some(bytes);
-            return Ok(bytes);
+    /// Sees to it that `bytes` are those of `nv`. Those past its end are zero, and all where it is
+    /// absent. They are read with the selector, and the next read has these.
+    pub fn read_nv<R: Files<File = F>>(&mut self, files: &R, at: u16) -> Result<(), Cause> {
+        if self.is_seen && at != SELECTOR {
+            self.is_seen = false;
+            return Ok(());
         }
-        match seen {
-            Some(bytes) => Ok(bytes),
-            None => self.read_nv(),
-        }
+        self.is_seen = false;
+        self.read_whole(files)?;
+        self.is_seen = at == SELECTOR;
+        Ok(())
     }
 
     // Reads `nv`.
-    fn read_nv(&mut self) -> Result<[u8; WHOLE], Reason> {
-        self.enter()?;
-        let mut bytes = [0; WHOLE];
-        if let Some(mut opened) = self.nv.look()? {
-            let size = opened.size_within(WHOLE as u64)?;
-            self.settle(&mut opened)?;
-            opened.read(0, &mut bytes[..size as usize])?;
-            self.nv.keep(opened);
-        }
-        Ok(bytes)
+    fn read_whole<R: Files<File = F>>(&mut self, files: &R) -> Result<(), Cause> {
+        self.enter(files)?;
+        self.nv.look(files)?;
+        let size = self.nv.size_within(WHOLE as u64)?;
+        settle(&mut self.nv, &self.lock)?;
+        self.bytes = [0; WHOLE];
+        let whole = &mut self.bytes[..];
+        self.nv.read(0, &mut whole[..size as usize])
     }
 
     /// Writes these bytes of `nv` from `at` on, in place.
-    pub fn put_nv(&mut self, at: u16, bytes: &[u8]) -> Result<(), Reason> {
-        self.seen = None;
-        self.enter()?;
-        let mut opened = self.nv.look_or_make()?;
-        let _ = opened.size_within(WHOLE as u64)?;
-        opened.write(u64::from(at), bytes)?;
-        self.settle(&mut opened)?;
-        self.nv.keep(opened);
-        Ok(())
+    pub fn put_nv<R: Files<File = F>>(
+        &mut self,
+        files: &R,
+        at: u16,
+        bytes: &[u8],
+    ) -> Result<(), Cause> {
+        self.is_seen = false;
+        self.enter(files)?;
+        self.nv.look_or_make(files)?;
+        let _ = self.nv.size_within(WHOLE as u64)?;
+        self.nv.write(u64::from(at), bytes)?;
+        settle(&mut self.nv, &self.lock)
     }
 
     /// The register's value, zero where the file is absent.
-    pub fn register(&mut self) -> Result<Digest, Reason> {
-        self.enter()?;
-        let found = self.register.look()?;
-        self.value_of(found)
+    pub fn register<R: Files<File = F>>(&mut self, files: &R) -> Result<Digest, Cause> {
+        self.enter(files)?;
+        self.register.look(files)?;
+        self.value()
     }
 
     // The value in the register's file.
-    fn value_of(&mut self, found: Option<OpenedFile<R::File>>) -> Result<Digest, Reason> {
-        let Some(mut opened) = found else {
-            return Ok(zero());
-        };
-        if opened.size != 32 {
-            return Err(Reason::Length {
-                name: opened.name,
-                size: opened.size,
-                wanted: 32,
-            });
-        }
-        self.settle(&mut opened)?;
+    fn value(&mut self) -> Result<Digest, Cause> {
+        self.register.refuse_other_size(32)?;
+        settle(&mut self.register, &self.lock)?;
         let mut bytes = [0; 32];
-        opened.read(0, &mut bytes)?;
-        self.register.keep(opened);
+        self.register.read(0, &mut bytes)?;
         Ok(Digest { bytes })
     }
 
-    /// Puts this value in place of the register's, whatever the file has.
-    pub fn put_register(&mut self, value: &Digest) -> Result<(), Reason> {
-        self.enter()?;
+    /// Puts this value in place of the register's, whatever the file has. It is never seen in part:
+    /// it is written to a new file and synced, which takes the name.
+    pub fn put_register<R: Files<File = F>>(
+        &mut self,
+        files: &R,
+        value: &Digest,
+    ) -> Result<(), Cause> {
+        self.enter(files)?;
         self.register.close();
-        let mut opened = replace(self.files, "register.new", "register", &value.bytes)?;
-        self.settle(&mut opened)?;
-        self.register.keep(opened);
+        self.fill_new(files, &value.bytes)?;
+        self.rename_new(files)?;
+        settle(&mut self.register, &self.lock)
+    }
+
+    // Puts these bytes into the new file, whatever an earlier program left there.
+    fn fill_new<R: Files<File = F>>(&mut self, files: &R, bytes: &[u8]) -> Result<(), Cause> {
+        self.new_register.open_or_make(files)?;
+        self.new_register.cut(0)?;
+        self.new_register.write(0, bytes)?;
+        self.new_register.sync()
+    }
+
+    // Gives the new file the register's name, which isn't synced yet. The file stays open.
+    fn rename_new<R: Files<File = F>>(&mut self, files: &R) -> Result<(), Cause> {
+        let outcome = named(
+            FileName::Register,
+            fs::rename(files, "register.new", "register"),
+        );
+        self.new_register.ended(outcome)?;
+        self.register.take_from(&mut self.new_register);
         Ok(())
     }
 
     /// Extends the register by a value. The file isn't looked at for that where it is open.
-    pub fn extend_register(&mut self, value: &Digest) -> Result<(), Reason> {
-        self.enter()?;
-        let found = self.register.take()?;
-        let old = self.value_of(found)?;
-        self.put_register(&extended(&old, value))
-    }
-
-    // Lets a file's bytes and its name be on the disk, where this program didn't yet.
-    fn settle(&self, opened: &mut OpenedFile<R::File>) -> Result<(), Reason> {
-        opened.sync()?;
-        if !opened.is_listed {
-            self.sync_names()?;
-            opened.is_listed = true;
-        }
-        Ok(())
-    }
-
-    // Lets the names be on the disk.
-    fn sync_names(&self) -> Result<(), Reason> {
-        match &self.lock {
-            Some(folder) => named(HERE, folder.sync_all()),
-            None => named(HERE, sync_folder(self.files, ".")),
-        }
-    }
-}
-
-// What came of the try to lock the current directory.
-fn locked(outcome: io::Result<()>) -> Result<(), Reason> {
-    match outcome {
-        Err(error) if error.kind() == ErrorKind::WouldBlock => Err(Reason::InUse),
-        outcome => named(HERE, outcome),
+    pub fn extend_register<R: Files<File = F>>(
+        &mut self,
+        files: &R,
+        value: &Digest,
+    ) -> Result<(), Cause> {
+        self.enter(files)?;
+        self.register.open(files)?;
+        let old = self.value()?;
+        self.put_register(files, &extended(&old, value))
     }
 }
 
 // Opens a file, and lets its bytes be on the disk.
-fn synced<R: Files>(kept: &mut KeptFile<'_, R>) -> Result<Option<OpenedFile<R::File>>, Reason>
+fn open_synced<R: Files>(kept: &mut KeptFile<R::File>, files: &R) -> Result<(), Cause>
 where
     R::File: FileExt,
 {
-    let Some(mut opened) = kept.take()? else {
-        return Ok(None);
-    };
-    opened.sync()?;
-    Ok(Some(opened))
+    kept.open(files)?;
+    kept.sync()
 }
 
-// Keeps a file whose name is on the disk.
-fn keep_listed<R: Files>(kept: &mut KeptFile<'_, R>, found: Option<OpenedFile<R::File>>)
-where
-    R::File: FileExt,
-{
-    if let Some(mut opened) = found {
-        opened.is_listed = true;
-        kept.keep(opened);
+// Lets a file's bytes and its name be on the disk, where this program didn't yet.
+fn settle<F: OpenFile + FileExt + Drop>(
+    kept: &mut KeptFile<F>,
+    lock: &Option<F>,
+) -> Result<(), Cause> {
+    kept.sync()?;
+    match (&mut kept.opened, lock) {
+        (Some(opened), Some(folder)) if !opened.is_listed => {
+            opened.is_listed = true;
+            let outcome = named(FileName::Here, folder.sync_all());
+            kept.ended(outcome)
+        }
+        _ => Ok(()),
+    }
+}
+
+// What came of the try to lock the current directory.
+fn locked(outcome: io::Result<()>) -> Result<(), Cause> {
+    match outcome {
+        Err(error) if error.kind() == ErrorKind::WouldBlock => Err(Cause::InUse),
+        outcome => named(FileName::Here, outcome),
     }
 }

@@ -1,32 +1,56 @@
-//! A file of the current directory that stays open.
+//! A file of the current directory that stays open. What answered `Ok` after a sync is on the disk.
 
-use crate::disk::{Identity, OpenedFile, open_or_make, open_there};
-use crate::reason::Reason;
-use std::fs;
-use std::os::unix::fs::FileExt;
+ghost use Rattle.std.specs.Prelude.{◌≤◌, IfOk};
+
+use crate::cause::{Cause, named};
+use crate::name::FileName;
+use crate::sight::{Identity, Sight, sight_at};
+use std::fs::{OpenFile, OpenOptions};
+use std::io::{self, ErrorKind};
+use std::os::unix::fs::{FileExt, OpenOptionsExt};
 use std::rt::Files;
 
-/// The file of a name, which stays open from the first call on. It is taken out for what is done to
-/// it, and kept again behind that: so it is closed where something failed, and what follows opens
-/// it anew. Where it is looked at, and others gave the name to another file, that one is opened.
+/// Whom a file that is made serves: its owner alone reads and writes it.
+const OWNER_ALONE: u32 = 0o600;
+
+/// An open file.
 #[derive(Drop)]
-pub struct KeptFile<'a, R: Files> {
-    files: &'a R,
-    name: &'static str,
-    opened: Option<OpenedFile<R::File>>,
+pub struct OpenedFile<F> {
+    file: F,
+    pub identity: Identity,
+    // How many bytes it has, by what was seen of it and done to it.
+    size: u64,
+    // Whether this program let its bytes be on the disk.
+    is_synced: bool,
+    /// Whether it did so with its name.
+    pub is_listed: bool,
+    /// Whether it was seen to be none of the program's other files.
+    pub is_alone: bool,
 }
 
-impl<'a, R: Files> KeptFile<'a, R>
-where
-    R::File: FileExt,
-{
+/// The file of a name, which stays open from the first call on. Where a call on it failed it is
+/// closed, and what follows opens it anew. Where it is looked at, and others gave the name to
+/// another file, that one is opened. Where it isn't open nothing is read of it or done to it.
+#[derive(Drop)]
+pub struct KeptFile<F> {
+    name: FileName,
+    /// The file where it is open.
+    pub opened: Option<OpenedFile<F>>,
+}
+
+/// Whether a file is made where it is opened: never, where it is absent, or anew, so that it is an
+/// error where something is there.
+#[derive(Clone, Copy)]
+enum Making {
+    Never,
+    WhereAbsent,
+    Anew,
+}
+
+impl<F: OpenFile + FileExt + Drop> KeptFile<F> {
     /// The file of this name, which isn't opened yet.
-    pub fn new(files: &'a R, name: &'static str) -> KeptFile<'a, R> {
-        KeptFile {
-            files,
-            name,
-            opened: None,
-        }
+    pub fn new(name: FileName) -> KeptFile<F> {
+        KeptFile { name, opened: None }
     }
 
     /// Which file is open.
@@ -37,33 +61,79 @@ where
         }
     }
 
-    /// Takes the file, looked at. None where it is absent.
-    pub fn look(&mut self) -> Result<Option<OpenedFile<R::File>>, Reason> {
-        match self.take_named() {
-            Some(opened) => Ok(Some(opened)),
-            None => open_there(self.files, self.name),
+    /// How many bytes it has, 0 where it isn't open.
+    pub fn size(&self) -> u64 {
+        match &self.opened {
+            Some(opened) => opened.size,
+            None => 0,
         }
     }
 
-    /// Takes the file, looked at. Where it is absent an empty one is made.
-    pub fn look_or_make(&mut self) -> Result<OpenedFile<R::File>, Reason> {
-        match self.take_named() {
-            Some(opened) => Ok(opened),
-            None => open_or_make(self.files, self.name),
+    /// Opens the file, looked at. It stays closed where it is absent.
+    pub fn look<R: Files<File = F>>(&mut self, files: &R) -> Result<(), Cause> {
+        self.close_other(files);
+        self.open(files)
+    }
+
+    /// Opens the file, looked at. Where it is absent an empty one is made.
+    pub fn look_or_make<R: Files<File = F>>(&mut self, files: &R) -> Result<(), Cause> {
+        self.close_other(files);
+        self.open_or_make(files)
+    }
+
+    /// Opens the file where it isn't open. It stays closed where it is absent.
+    pub fn open<R: Files<File = F>>(&mut self, files: &R) -> Result<(), Cause> {
+        if self.opened.is_some() {
+            return Ok(());
+        }
+        match opened(files, self.name.text(), Making::Never) {
+            Err(error) if error.kind() == ErrorKind::NotFound => Ok(()),
+            outcome => self.keep(outcome),
         }
     }
 
-    /// Takes the file as it is open, or else looked at. None where it is absent.
-    pub fn take(&mut self) -> Result<Option<OpenedFile<R::File>>, Reason> {
-        match self.opened.take() {
-            Some(opened) => Ok(Some(opened)),
-            None => open_there(self.files, self.name),
+    /// Opens the file where it isn't open. Where it is absent an empty one is made.
+    pub fn open_or_make<R: Files<File = F>>(&mut self, files: &R) -> Result<(), Cause> {
+        if self.opened.is_some() {
+            return Ok(());
+        }
+        self.keep(opened(files, self.name.text(), Making::WhereAbsent))
+    }
+
+    /// Makes an empty file at this path. An error where something is there: no link is followed.
+    pub fn make<R: Files<File = F>>(&mut self, files: &R, path: &str) -> Result<(), Cause> {
+        self.keep(opened(files, path, Making::Anew))
+    }
+
+    // Keeps the file that was opened. An error where it is no file.
+    fn keep(&mut self, outcome: io::Result<F>) -> Result<(), Cause> {
+        let file = named(self.name, outcome)?;
+        let there = look_at(&file, self.name)?;
+        self.opened = Some(OpenedFile {
+            file,
+            identity: there.identity,
+            size: there.size,
+            is_synced: false,
+            is_listed: false,
+            is_alone: false,
+        });
+        Ok(())
+    }
+
+    // Closes the file where it isn't the one of the name any more. Otherwise it has the size that
+    // it has now.
+    fn close_other<R: Files<File = F>>(&mut self, files: &R) {
+        if let Some(opened) = &mut self.opened {
+            match sight_at(files, self.name.text()) {
+                Ok(there) if there.identity == opened.identity => opened.size = there.size,
+                _ => self.opened = None,
+            }
         }
     }
 
-    /// Keeps a file open as that of the name.
-    pub fn keep(&mut self, opened: OpenedFile<R::File>) {
-        self.opened = Some(opened);
+    /// Keeps the file open that another has open.
+    pub fn take_from(&mut self, other: &mut KeptFile<F>) {
+        self.opened = other.opened.take();
     }
 
     /// Closes the file.
@@ -71,16 +141,122 @@ where
         self.opened = None;
     }
 
-    // Takes the file that is open, with the size that it has now, if it is still the one of the
-    // name.
-    fn take_named(&mut self) -> Option<OpenedFile<R::File>> {
-        let mut opened = self.opened.take()?;
-        match fs::metadata(self.files, self.name) {
-            Ok(there) if Identity::of(&there) == opened.identity => {
-                opened.size = there.len();
-                Some(opened)
-            }
-            _ => None,
+    /// What came of a call on the file, which is closed where that failed.
+    pub fn ended(&mut self, outcome: Result<(), Cause>) -> Result<(), Cause> {
+        if outcome.is_err() {
+            self.opened = None;
         }
+        outcome
+    }
+
+    /// Reads bytes from `at` on, as many as there is room for.
+    pub fn read(&mut self, at: u64, into: &mut [u8]) -> Result<(), Cause> {
+        match &self.opened {
+            Some(opened) => {
+                let outcome = named(self.name, opened.file.read_exact_at(into, at));
+                self.ended(outcome)
+            }
+            None => Ok(()),
+        }
+    }
+
+    /// Writes these bytes from `at` on, in place.
+    pub fn write(&mut self, at: u64, bytes: &[u8]) -> Result<(), Cause> {
+        match &mut self.opened {
+            Some(opened) => {
+                opened.is_synced = false;
+                opened.size = opened.size.max(at.saturating_add(bytes.len() as u64));
+                let outcome = named(self.name, opened.file.write_all_at(bytes, at));
+                self.ended(outcome)
+            }
+            None => Ok(()),
+        }
+    }
+
+    /// Gives it this length, where it has another.
+    pub fn cut(&mut self, length: u64) -> Result<(), Cause> {
+        match &mut self.opened {
+            Some(opened) => {
+                opened.is_synced = false;
+                let size = opened.size;
+                opened.size = length;
+                if size == length {
+                    return Ok(());
+                }
+                let outcome = named(self.name, opened.file.set_len(length));
+                self.ended(outcome)
+            }
+            None => Ok(()),
+        }
+    }
+
+    /// Lets its bytes be on the disk, where this program didn't yet.
+    pub fn sync(&mut self) -> Result<(), Cause> {
+        match &mut self.opened {
+            Some(opened) if !opened.is_synced => {
+                opened.is_synced = true;
+                let outcome = named(self.name, opened.file.sync_data());
+                self.ended(outcome)
+            }
+            _ => Ok(()),
+        }
+    }
+
+    /// Says that its name is on the disk.
+    pub fn set_listed(&mut self) {
+        if let Some(opened) = &mut self.opened {
+            opened.is_listed = true;
+        }
+    }
+
+    /// Its size, at most this many bytes. A greater one is an error.
+    pub fn size_within(&mut self, most: u64) -> Result<u64, Cause>
+        ensures { IfOk result (λ size. size ≤ most) }
+    {
+        let size = self.size();
+        if size <= most {
+            return Ok(size);
+        }
+        let name = self.name;
+        self.close();
+        Err(Cause::Long { name, size, most })
+    }
+
+    /// An error where it has another size than this.
+    pub fn refuse_other_size(&mut self, wanted: u64) -> Result<(), Cause> {
+        match &self.opened {
+            Some(opened) if opened.size != wanted => {
+                let size = opened.size;
+                let name = self.name;
+                self.close();
+                Err(Cause::Length { name, size, wanted })
+            }
+            _ => Ok(()),
+        }
+    }
+}
+
+// Opens the file at this path, to read and to write at once, since a FIFO in its place is opened
+// without waiting then.
+fn opened<R: Files>(files: &R, path: &str, making: Making) -> io::Result<R::File> {
+    let is_made = matches!(making, Making::WhereAbsent);
+    let is_new = matches!(making, Making::Anew);
+    OpenOptions::new()
+        .read(true)
+        .write(true)
+        .create(is_made)
+        .create_new(is_new)
+        .mode(OWNER_ALONE)
+        .open(files, path)
+}
+
+// What is seen of a file that was just opened. An error where it is none, but a FIFO, a device or a
+// folder.
+fn look_at<F: OpenFile>(file: &F, name: FileName) -> Result<Sight, Cause> {
+    let there = Sight::of(&named(name, file.metadata())?);
+    if there.is_file {
+        Ok(there)
+    } else {
+        Err(Cause::NoFile { name })
     }
 }

@@ -3,15 +3,17 @@
 //! trusted. Each counts its errors, and keeps the reason of the last.
 #![tactic(auto)]
 
+mod cause;
 mod counting;
-mod disk;
 mod folder;
 mod kept;
 mod lock;
+mod name;
 mod pages;
 mod place;
 mod platform;
 mod reason;
+mod sight;
 mod slots;
 mod source;
 mod streams;

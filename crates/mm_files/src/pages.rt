@@ -3,6 +3,7 @@
 ghost use Rattle.std.specs.Prelude.{◌≡◌, None, IfOk};
 ghost use Rattle.mm_files.specs.UntoldDevices.{untold_pages};
 
+use crate::cause::in_words;
 use crate::counting::counted;
 use crate::reason::Reason;
 use crate::slots::SlotFiles;
@@ -18,7 +19,8 @@ use std::rt::Files;
 /// the call fails.
 #[derive(Drop)]
 pub struct FilePages<'a, R: Files> {
-    slots: SlotFiles<'a, R>,
+    files: &'a R,
+    slots: SlotFiles<R::File>,
     faults: u64,
     page_reads: u64,
     page_writes: u64,
@@ -40,6 +42,7 @@ where
     {
         let slots = SlotFiles::new(alloc, files)?;
         Ok(FilePages {
+            files,
             slots,
             faults: 0,
             page_reads: 0,
@@ -64,30 +67,33 @@ where
     ghost pages = { λ it. untold_pages it.faults it.page_reads it.page_writes it.length_writes };
 
     fn length(&mut self, slot: u8) -> Result<u32, Failed> {
-        let outcome = self.slots.get(slot).length();
-        counted(&mut self.faults, &mut self.last, outcome)
+        let outcome = self.slots.get(slot).length(self.files);
+        counted(&mut self.faults, &mut self.last, in_words(outcome))
     }
 
     fn read_page(&mut self, slot: u8, page: u16, into: &mut [u8; 256]) -> Result<(), Failed> {
         self.page_reads = self.page_reads.saturating_add(1);
-        let outcome = self.slots.get(slot).read(page, into);
-        counted(&mut self.faults, &mut self.last, outcome)
+        let outcome = self.slots.get(slot).read(self.files, page, into);
+        counted(&mut self.faults, &mut self.last, in_words(outcome))
     }
 
     fn write_page(&mut self, slot: u8, page: u16, bytes: &[u8; 256]) -> Result<(), Failed> {
         self.page_writes = self.page_writes.saturating_add(1);
-        let outcome = self.slots.get(slot).write(page, bytes);
-        counted(&mut self.faults, &mut self.last, outcome)
+        let outcome = self.slots.get(slot).write(self.files, page, bytes);
+        counted(&mut self.faults, &mut self.last, in_words(outcome))
     }
 
     fn set_length(&mut self, slot: u8, length: u32) -> Result<(), Failed> {
         self.length_writes = self.length_writes.saturating_add(1);
-        let outcome = self.slots.get(slot).set_length(u64::from(length));
-        counted(&mut self.faults, &mut self.last, outcome)
+        let outcome = self
+            .slots
+            .get(slot)
+            .set_length(self.files, u64::from(length));
+        counted(&mut self.faults, &mut self.last, in_words(outcome))
     }
 
     fn sync(&mut self, slot: u8) -> Result<(), Failed> {
-        let outcome = self.slots.get(slot).sync();
-        counted(&mut self.faults, &mut self.last, outcome)
+        let outcome = self.slots.get(slot).sync(self.files);
+        counted(&mut self.faults, &mut self.last, in_words(outcome))
     }
 }

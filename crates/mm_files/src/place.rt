@@ -1,63 +1,62 @@
 //! Where the file of a slot itself stands, behind links, and whether it is one of its own.
 
-use crate::disk::{Identity, OpenedFile, make};
-use crate::reason::{HERE, Reason, named};
+use crate::cause::{Cause, named};
+use crate::name::{FILES, FileName};
+use crate::sight::{Identity, sight_at};
 use mm_base::Memory;
 use std::alloc::Global;
 use std::fs::{self, OpenFile};
 use std::io::{self, ErrorKind};
-use std::os::unix::fs::FileExt;
 use std::path::PathBuf;
 use std::rt::Files;
 
 /// How many links are followed.
 const MOST_LINKS: u32 = 40;
 
-/// The names of the program's files in the current directory. Each has a file of its own.
-const NAMES: [&str; 7] = [
-    "nv",
-    "register",
-    "register.new",
-    "slot0",
-    "slot1",
-    "slot2",
-    "slot3",
-];
-
 /// Where the file of a slot stands: the path to which the links of its name led when the program
 /// began, whether a file was there or not.
 #[derive(Drop)]
 pub struct FilePlace {
-    name: &'static str,
+    name: FileName,
     path: PathBuf,
     // Why the links couldn't be followed.
-    failed: Option<Reason>,
+    failed: Option<io::Error>,
 }
 
 impl FilePlace {
-    /// That of this name.
-    pub fn of<R: Files>(alloc: Global, files: &R, name: &'static str) -> Result<FilePlace, Memory> {
-        match path_behind(alloc, files, name) {
-            Ok(path) => Ok(FilePlace {
-                name,
-                path,
-                failed: None,
-            }),
+    /// That of this name, whose links weren't followed yet.
+    pub fn new(alloc: Global, name: FileName) -> FilePlace {
+        FilePlace {
+            name,
+            path: PathBuf::new(alloc),
+            failed: None,
+        }
+    }
+
+    /// Follows the links. After want of memory they weren't.
+    pub fn follow<R: Files>(&mut self, alloc: Global, files: &R) -> Result<(), Memory> {
+        match follow_links(alloc, files, self.name.text(), &mut self.path) {
+            Ok(()) => Ok(()),
             Err(error) if error.kind() == ErrorKind::OutOfMemory => Err(Memory),
-            Err(error) => Ok(FilePlace {
-                name,
-                path: PathBuf::new(alloc),
-                failed: Some(Reason::System { name, error }),
-            }),
+            Err(error) => {
+                self.failed = Some(error);
+                Ok(())
+            }
         }
     }
 
     // An error where it isn't known.
-    fn known(&self) -> Result<(), Reason> {
+    fn known(&self) -> Result<(), Cause> {
+        let name = self.name;
         match self.failed {
-            Some(reason) => Err(reason),
+            Some(error) => Err(Cause::System { name, error }),
             None => Ok(()),
         }
+    }
+
+    /// The path.
+    pub fn path(&self) -> &str {
+        self.path.as_str()
     }
 
     // The folder of the path.
@@ -70,39 +69,36 @@ impl FilePlace {
 
     /// Lets the name of the file be on the disk, in the folder where the file itself stands. Where
     /// a link leads there the link's name is, too.
-    pub fn sync_name<R: Files>(&self, files: &R) -> Result<(), Reason> {
+    pub fn sync_name<R: Files>(&self, files: &R) -> Result<(), Cause> {
         self.known()?;
         let name = self.name;
-        if let Err(error) = sync_folder(files, self.folder()) {
-            return Err(Reason::Folder { name, error });
+        match sync_folder(files, self.folder()) {
+            Err(error) => Err(Cause::Folder { name, error }),
+            Ok(()) if self.path.as_str() != name.text() => named(
+                FileName::Here,
+                sync_folder(files, "."),
+            ),
+            Ok(()) => Ok(()),
         }
-        if self.path.as_str() != name {
-            return named(HERE, sync_folder(files, "."));
-        }
-        Ok(())
     }
 
-    /// Makes the file, which is absent. An error where the place is that of another of the
-    /// program's files.
-    pub fn make<R: Files>(&self, files: &R) -> Result<OpenedFile<R::File>, Reason>
-    where
-        R::File: FileExt,
-    {
+    /// An error where the place is that of another of the program's files.
+    pub fn refuse_other<R: Files>(&self, files: &R) -> Result<(), Cause> {
         self.known()?;
         let name = self.name;
-        if let Some(other) = self.other_name()
-            && named(name, is_current(files, self.folder()))?
-        {
-            return Err(Reason::Same { name, other });
+        match self.other_name() {
+            Some(other) if named(name, is_current(files, self.folder()))? => {
+                Err(Cause::Same { name, other })
+            }
+            _ => Ok(()),
         }
-        make(files, name, self.path.as_str())
     }
 
     // Which of the other files has the name that the path ends in.
-    fn other_name(&self) -> Option<&'static str> {
+    fn other_name(&self) -> Option<FileName> {
         let last = self.path.file_name()?;
-        for other in NAMES {
-            if other != self.name && other == last {
+        for other in FILES {
+            if other != self.name && other.text() == last {
                 return Some(other);
             }
         }
@@ -115,53 +111,55 @@ fn is_no_link(error: &io::Error) -> bool {
     matches!(error.kind(), ErrorKind::NotFound | ErrorKind::InvalidInput)
 }
 
-// The path to which the links of a name lead. It is the name where it is no link.
-fn path_behind<R: Files>(alloc: Global, files: &R, name: &str) -> io::Result<PathBuf> {
-    let mut path = PathBuf::from_str(alloc, name)?;
+// Puts the path to which the links of a name lead in place of this one. It is the name where it is
+// no link.
+fn follow_links<R: Files>(
+    alloc: Global,
+    files: &R,
+    name: &str,
+    path: &mut PathBuf,
+) -> io::Result<()> {
+    *path = PathBuf::from_str(alloc, name)?;
     for _ in 0..MOST_LINKS {
         match files.read_link(alloc, path.as_str()) {
             Ok(target) => {
                 let _ = path.pop();
                 path.push(target)?;
             }
-            Err(error) if is_no_link(&error) => return Ok(path),
+            Err(error) if is_no_link(&error) => return Ok(()),
             Err(error) => return Err(error),
         }
     }
     Err(io::Error::from(ErrorKind::FilesystemLoop))
 }
 
-/// Lets the names of a folder's files be on the disk.
-pub fn sync_folder<R: Files>(files: &R, path: &str) -> io::Result<()> {
+// Lets the names of a folder's files be on the disk.
+fn sync_folder<R: Files>(files: &R, path: &str) -> io::Result<()> {
     fs::open(files, path)?.sync_all()
 }
 
 // Whether a folder is the current directory.
 fn is_current<R: Files>(files: &R, path: &str) -> io::Result<bool> {
-    let folder = fs::metadata(files, path)?;
-    let current = fs::metadata(files, ".")?;
-    Ok(Identity::of(&folder) == Identity::of(&current))
+    let folder = sight_at(files, path)?;
+    let current = sight_at(files, ".")?;
+    Ok(folder.identity == current.identity)
 }
 
-/// A slot's file. An error where it is another of the program's files, by its name.
-pub fn refuse_same<R: Files>(files: &R, opened: &OpenedFile<R::File>) -> Result<(), Reason>
-where
-    R::File: FileExt,
-{
-    for other in NAMES {
-        if other != opened.name && is_at(files, other, opened.identity)? {
-            let name = opened.name;
-            return Err(Reason::Same { name, other });
+/// An error where a slot's file is another of the program's files, by its name.
+pub fn refuse_same<R: Files>(files: &R, name: FileName, identity: Identity) -> Result<(), Cause> {
+    for other in FILES {
+        if other != name && is_at(files, other, identity)? {
+            return Err(Cause::Same { name, other });
         }
     }
     Ok(())
 }
 
 // Whether a name leads to this file.
-fn is_at<R: Files>(files: &R, name: &'static str, identity: Identity) -> Result<bool, Reason> {
-    match fs::metadata(files, name) {
-        Ok(there) => Ok(Identity::of(&there) == identity),
+fn is_at<R: Files>(files: &R, name: FileName, identity: Identity) -> Result<bool, Cause> {
+    match sight_at(files, name.text()) {
+        Ok(there) => Ok(there.identity == identity),
         Err(error) if error.kind() == ErrorKind::NotFound => Ok(false),
-        Err(error) => Err(Reason::System { name, error }),
+        Err(error) => Err(Cause::System { name, error }),
     }
 }

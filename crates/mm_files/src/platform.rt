@@ -4,6 +4,7 @@ ghost use Rattle.std.specs.Prelude.{◌≡◌, None, Some, IfErr, MatchResult};
 ghost use Rattle.mm_base.specs.Faults.{CountsFaults};
 ghost use Rattle.mm_files.specs.UntoldDevices.{none_are, untold_standing};
 
+use crate::cause::in_words;
 use crate::counting::counted;
 use crate::folder::Folder;
 use crate::lock::Lock;
@@ -21,7 +22,8 @@ use std::rt::Files;
 /// Memory is read with the byte at 208, and the next reading call tells what was read then.
 #[derive(Drop)]
 pub struct FilePlatform<'a, R: Files> {
-    folder: Folder<'a, R>,
+    files: &'a R,
+    folder: Folder<R::File>,
     steps: u64,
     cycles: u64,
     faults: u64,
@@ -40,7 +42,8 @@ where
         ensures reason { result.last ≡ None }
     {
         FilePlatform {
-            folder: Folder::new(files),
+            files,
+            folder: Folder::new(),
             steps: 0,
             cycles: 0,
             faults: 0,
@@ -86,22 +89,22 @@ where
     R::File: Lock + FileExt,
 {
     fn raw_read(&mut self, at: u16, into: &mut [u8]) -> Result<(), StepFault> {
-        let outcome = self.folder.nv(at);
-        let bytes = told(&mut self.faults, &mut self.last, outcome)?;
+        let outcome = self.folder.read_nv(self.files, at);
+        told(&mut self.faults, &mut self.last, in_words(outcome))?;
         let start = usize::from(at);
-        into.copy_from_slice(&bytes[start..start + into.len()]);
+        into.copy_from_slice(&self.folder.bytes[start..start + into.len()]);
         Ok(())
     }
 
     fn raw_write(&mut self, at: u16, bytes: &[u8]) -> Result<(), StepFault> {
-        let outcome = self.folder.put_nv(at, bytes);
-        told(&mut self.faults, &mut self.last, outcome)
+        let outcome = self.folder.put_nv(self.files, at, bytes);
+        told(&mut self.faults, &mut self.last, in_words(outcome))
     }
 
     fn raw_cycle(&mut self) -> Result<(), StepFault> {
         self.cycles = self.cycles.saturating_add(1);
-        let outcome = self.folder.put_register(&zero());
-        told(&mut self.faults, &mut self.last, outcome)
+        let outcome = self.folder.put_register(self.files, &zero());
+        told(&mut self.faults, &mut self.last, in_words(outcome))
     }
 
     ghost is_whole = { λ _ bytes told. none_are 209 bytes told };
@@ -117,19 +120,19 @@ where
 
     fn reg_read(&mut self) -> Result<Digest, StepFault> {
         self.steps = self.steps.saturating_add(1);
-        let outcome = self.folder.register();
-        told(&mut self.faults, &mut self.last, outcome)
+        let outcome = self.folder.register(self.files);
+        told(&mut self.faults, &mut self.last, in_words(outcome))
     }
 
     fn reg_reset(&mut self) -> Result<(), StepFault> {
         self.steps = self.steps.saturating_add(1);
-        let outcome = self.folder.put_register(&zero());
-        told(&mut self.faults, &mut self.last, outcome)
+        let outcome = self.folder.put_register(self.files, &zero());
+        told(&mut self.faults, &mut self.last, in_words(outcome))
     }
 
     fn reg_extend(&mut self, value: &Digest) -> Result<(), StepFault> {
         self.steps = self.steps.saturating_add(1);
-        let outcome = self.folder.extend_register(value);
-        told(&mut self.faults, &mut self.last, outcome)
+        let outcome = self.folder.extend_register(self.files, value);
+        told(&mut self.faults, &mut self.last, in_words(outcome))
     }
 }

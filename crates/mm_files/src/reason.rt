@@ -6,9 +6,6 @@ ghost use Rattle.mm_files.specs.declared.reason.Reason.TheVariants.{System};
 use std::io;
 use thiserror::Error;
 
-/// What the current directory is called.
-pub const HERE: &str = "the current directory";
-
 /// Why a call on a file failed, in words for people.
 #[derive(Clone, Copy, Debug, Error)]
 pub enum Reason {

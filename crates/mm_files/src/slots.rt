@@ -2,13 +2,15 @@
 
 ghost use Rattle.std.specs.Prelude.{◌≤◌};
 
-use crate::disk::{Identity, OpenedFile};
+use crate::cause::Cause;
 use crate::kept::KeptFile;
+use crate::name::FileName;
 use crate::place::{FilePlace, refuse_same};
-use crate::reason::Reason;
+use crate::sight::Identity;
 use mm_base::Memory;
 use mm_store::Four;
 use std::alloc::Global;
+use std::fs::OpenFile;
 use std::os::unix::fs::FileExt;
 use std::rt::Files;
 
@@ -20,27 +22,35 @@ const LATER: u16 = 1;
 
 /// The files of the slots.
 #[derive(Drop)]
-pub struct SlotFiles<'a, R: Files> {
-    slots: Four<Slot<'a, R>>,
+pub struct SlotFiles<F> {
+    slots: Four<Slot<F>>,
 }
 
-impl<'a, R: Files> SlotFiles<'a, R>
-where
-    R::File: FileExt,
-{
+impl<F: OpenFile + FileExt + Drop> SlotFiles<F> {
     /// The slots, whose links are followed now.
-    pub fn new(alloc: Global, files: &'a R) -> Result<SlotFiles<'a, R>, Memory> {
-        let zero = Slot::new(alloc, files, "slot0")?;
-        let one = Slot::new(alloc, files, "slot1")?;
-        let two = Slot::new(alloc, files, "slot2")?;
-        let three = Slot::new(alloc, files, "slot3")?;
-        Ok(SlotFiles {
-            slots: Four::new(zero, one, two, three),
-        })
+    pub fn new<R: Files>(alloc: Global, files: &R) -> Result<SlotFiles<F>, Memory> {
+        let mut slots = SlotFiles {
+            slots: Four::new(
+                Slot::new(alloc, FileName::Slot0),
+                Slot::new(alloc, FileName::Slot1),
+                Slot::new(alloc, FileName::Slot2),
+                Slot::new(alloc, FileName::Slot3),
+            ),
+        };
+        slots.follow_links(alloc, files)?;
+        Ok(slots)
+    }
+
+    // Follows the slots' links.
+    fn follow_links<R: Files>(&mut self, alloc: Global, files: &R) -> Result<(), Memory> {
+        for slot in 0..4 {
+            self.slots.get_mut(slot).place.follow(alloc, files)?;
+        }
+        Ok(())
     }
 
     /// The slot of this number below 4. It knows which files the others have open.
-    pub fn get(&mut self, slot: u8) -> &mut Slot<'a, R> {
+    pub fn get(&mut self, slot: u8) -> &mut Slot<F> {
         let claims = self.claims();
         let slot = self.slots.get_mut(slot);
         slot.claims = claims;
@@ -59,16 +69,16 @@ where
 }
 
 // The slot that has this file open, of slots that have these.
-fn name_of(claims: &Four<Option<Identity>>, file: Identity) -> Option<&'static str> {
+fn name_of(claims: &Four<Option<Identity>>, file: Identity) -> Option<FileName> {
     let file = Some(file);
     if *claims.get(0) == file {
-        Some("slot0")
+        Some(FileName::Slot0)
     } else if *claims.get(1) == file {
-        Some("slot1")
+        Some(FileName::Slot1)
     } else if *claims.get(2) == file {
-        Some("slot2")
+        Some(FileName::Slot2)
     } else if *claims.get(3) == file {
-        Some("slot3")
+        Some(FileName::Slot3)
     } else {
         None
     }
@@ -84,143 +94,141 @@ fn name_of(claims: &Four<Option<Identity>>, file: Identity) -> Option<&'static s
 /// front on. What was opened is neither read nor written where it is another of the program's
 /// files.
 #[derive(Drop)]
-pub struct Slot<'a, R: Files> {
-    files: &'a R,
-    name: &'static str,
+pub struct Slot<F> {
+    name: FileName,
     place: FilePlace,
-    kept: KeptFile<'a, R>,
+    kept: KeptFile<F>,
     // The length that writes of pages gave it, none where it is that of its file.
     length: Option<u64>,
     // What all slots had open when this call began.
     claims: Four<Option<Identity>>,
 }
 
-impl<'a, R: Files> Slot<'a, R>
-where
-    R::File: FileExt,
-{
-    fn new(alloc: Global, files: &'a R, name: &'static str) -> Result<Slot<'a, R>, Memory> {
-        let place = FilePlace::of(alloc, files, name)?;
-        Ok(Slot {
-            files,
+impl<F: OpenFile + FileExt + Drop> Slot<F> {
+    fn new(alloc: Global, name: FileName) -> Slot<F> {
+        Slot {
             name,
-            place,
-            kept: KeptFile::new(files, name),
+            place: FilePlace::new(alloc, name),
+            kept: KeptFile::new(name),
             length: None,
             claims: Four::new(None, None, None, None),
-        })
-    }
-
-    // Takes the file, looked at for the first page. None where it is absent.
-    fn find(&mut self, page: u16) -> Result<Option<OpenedFile<R::File>>, Reason> {
-        let found = match page {
-            0 => self.kept.look()?,
-            _ => self.kept.take()?,
-        };
-        match found {
-            Some(opened) => Ok(Some(self.alone(opened)?)),
-            None => Ok(None),
         }
     }
 
-    // Takes the file, looked at for the first page. Where it is absent an empty one is made.
-    fn find_or_make(&mut self, page: u16) -> Result<OpenedFile<R::File>, Reason> {
-        match self.find(page)? {
-            Some(opened) => Ok(opened),
-            None => self.alone(self.place.make(self.files)?),
+    // Opens the file, looked at for the first page. It stays closed where it is absent.
+    fn find<R: Files<File = F>>(&mut self, files: &R, page: u16) -> Result<(), Cause> {
+        match page {
+            0 => self.kept.look(files)?,
+            _ => self.kept.open(files)?,
+        }
+        self.refuse_others(files)
+    }
+
+    // Opens the file, looked at for the first page. Where it is absent an empty one is made.
+    fn find_or_make<R: Files<File = F>>(&mut self, files: &R, page: u16) -> Result<(), Cause> {
+        self.find(files, page)?;
+        if self.kept.opened.is_some() {
+            return Ok(());
+        }
+        self.place.refuse_other(files)?;
+        self.kept.make(files, self.place.path())?;
+        self.refuse_others(files)
+    }
+
+    // An error where the file is another of the program's.
+    fn refuse_others<R: Files<File = F>>(&mut self, files: &R) -> Result<(), Cause> {
+        match &mut self.kept.opened {
+            Some(opened) if !opened.is_alone => {
+                opened.is_alone = true;
+                let identity = opened.identity;
+                let outcome = self.refuse_same(files, identity);
+                self.kept.ended(outcome)
+            }
+            _ => Ok(()),
         }
     }
 
-    // The file, where it is none of the program's others.
-    fn alone(&self, mut opened: OpenedFile<R::File>) -> Result<OpenedFile<R::File>, Reason> {
-        if !opened.is_alone {
-            refuse_same(self.files, &opened)?;
-            self.refuse_claimed(&opened)?;
-            opened.is_alone = true;
-        }
-        Ok(opened)
-    }
-
-    // An error where another slot has the file open.
-    fn refuse_claimed(&self, opened: &OpenedFile<R::File>) -> Result<(), Reason> {
-        match name_of(&self.claims, opened.identity) {
-            Some(other) if other != self.name => Err(Reason::Same {
-                name: self.name,
-                other,
-            }),
+    // An error where this file has the name of another of the program's files, or another slot has
+    // it open.
+    fn refuse_same<R: Files<File = F>>(&self, files: &R, file: Identity) -> Result<(), Cause> {
+        refuse_same(files, self.name, file)?;
+        let name = self.name;
+        match name_of(&self.claims, file) {
+            Some(other) if other != name => Err(Cause::Same { name, other }),
             _ => Ok(()),
         }
     }
 
     /// How many bytes the slot has, none where its file is absent. What an earlier program wrote to
     /// it is on the disk afterwards.
-    pub fn length(&mut self) -> Result<u32, Reason> {
-        if let Some(length) = self.length {
-            return Ok(u32::try_from(length).unwrap_or(u32::MAX));
+    pub fn length<R: Files<File = F>>(&mut self, files: &R) -> Result<u32, Cause> {
+        if self.length.is_none() {
+            self.find(files, 0)?;
+            self.settle(files)?;
         }
-        let Some(opened) = self.find(0)? else {
-            return Ok(0);
-        };
-        let size = opened.size;
-        self.settle(opened)?;
-        Ok(u32::try_from(size).unwrap_or(u32::MAX))
+        let length = self.length.unwrap_or(self.kept.size());
+        Ok(u32::try_from(length).unwrap_or(u32::MAX))
     }
 
     /// Reads a page. Bytes past the slot's end are zero.
-    pub fn read(&mut self, page: u16, into: &mut [u8; 256]) -> Result<(), Reason> {
+    pub fn read<R: Files<File = F>>(
+        &mut self,
+        files: &R,
+        page: u16,
+        into: &mut [u8; 256],
+    ) -> Result<(), Cause> {
         *into = [0; 256];
-        if let Some(opened) = self.find(page)? {
-            let start = start_of(page);
-            let (front, _) = into.split_at_mut(part_of(opened.size, start));
-            opened.read(start, front)?;
-            self.kept.keep(opened);
-        }
-        Ok(())
+        self.find(files, page)?;
+        let start = start_of(page);
+        let (front, _) = into.split_at_mut(part_of(self.kept.size(), start));
+        self.kept.read(start, front)
     }
 
     /// Writes a page, in place. After an error the slot has the bytes of its file alone.
-    pub fn write(&mut self, page: u16, bytes: &[u8; 256]) -> Result<(), Reason> {
+    pub fn write<R: Files<File = F>>(
+        &mut self,
+        files: &R,
+        page: u16,
+        bytes: &[u8; 256],
+    ) -> Result<(), Cause> {
         let length = self.length.take().unwrap_or(0);
-        let mut opened = self.find_or_make(page)?;
+        self.find_or_make(files, page)?;
         let start = start_of(page);
-        let (front, _) = bytes.split_at(size_set(bytes).max(part_of(opened.size, start)));
-        opened.write(start, front)?;
-        self.length = Some(opened.size.max(length).max(start + PAGE));
-        self.kept.keep(opened);
+        let (front, _) = bytes.split_at(size_set(bytes).max(part_of(self.kept.size(), start)));
+        self.kept.write(start, front)?;
+        self.length = Some(self.kept.size().max(length).max(start + PAGE));
         Ok(())
     }
 
     /// Cuts the slot to this length, or fills it up to there with zero bytes. Its file is changed
     /// where it has another. After an error the slot has the bytes of its file alone.
-    pub fn set_length(&mut self, length: u64) -> Result<(), Reason> {
+    pub fn set_length<R: Files<File = F>>(&mut self, files: &R, length: u64) -> Result<(), Cause> {
         self.length = None;
-        let mut opened = self.find_or_make(LATER)?;
-        opened.cut(length)?;
-        self.kept.keep(opened);
-        Ok(())
+        self.find_or_make(files, LATER)?;
+        self.kept.cut(length)
     }
 
     /// Lets the slot's bytes, in a file of their length, and its name be on the disk. An absent
     /// file stays so.
-    pub fn sync(&mut self) -> Result<(), Reason> {
+    pub fn sync<R: Files<File = F>>(&mut self, files: &R) -> Result<(), Cause> {
         if let Some(length) = self.length {
-            self.set_length(length)?;
+            self.set_length(files, length)?;
         }
-        match self.find(LATER)? {
-            Some(opened) => self.settle(opened),
-            None => Ok(()),
-        }
+        self.find(files, LATER)?;
+        self.settle(files)
     }
 
     // Lets the file's bytes and its name be on the disk, where this program didn't yet.
-    fn settle(&mut self, mut opened: OpenedFile<R::File>) -> Result<(), Reason> {
-        opened.sync()?;
-        if !opened.is_listed {
-            self.place.sync_name(self.files)?;
-            opened.is_listed = true;
+    fn settle<R: Files<File = F>>(&mut self, files: &R) -> Result<(), Cause> {
+        self.kept.sync()?;
+        match &mut self.kept.opened {
+            Some(opened) if !opened.is_listed => {
+                opened.is_listed = true;
+                let outcome = self.place.sync_name(files);
+                self.kept.ended(outcome)
+            }
+            _ => Ok(()),
         }
-        self.kept.keep(opened);
-        Ok(())
     }
 }
 

@@ -59,13 +59,23 @@ impl<'a, R: Files> FileSource<'a, R> {
         ensures within { IfOk result (λ count. count ≤ length buf.new) }
         ensures faults { self.new.faults ≡ self.old.faults }
     {
-        if let Some(file) = &mut self.file {
-            return named(self.name, file.read(buf));
+        match &mut self.file {
+            Some(file) => named(self.name, file.read(buf)),
+            None => self.read_first(buf),
         }
+    }
+
+    // Opens the file, and reads its first bytes. It stays open where both could be done.
+    fn read_first(&mut self, buf: &mut [u8]) -> Result<usize, Reason>
+        ensures within { IfOk result (λ count. count ≤ length buf.new) }
+        ensures faults { self.new.faults ≡ self.old.faults }
+    {
         let mut file = self.open()?;
-        let count = named(self.name, file.read(buf))?;
-        self.file = Some(file);
-        Ok(count)
+        let outcome = named(self.name, file.read(buf));
+        if outcome.is_ok() {
+            self.file = Some(file);
+        }
+        outcome
     }
 }
 
