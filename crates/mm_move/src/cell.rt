@@ -37,7 +37,7 @@ pub struct RetiredCell {
 }
 
 /// What the cell holds: the module lives there, is awaited there, or has left.
-#[derive(Clone, Copy, Debug, PartialEq, Eq)]
+#[derive(Clone, Copy, PartialEq, Eq)]
 pub enum MovedCell {
     Live(Cell),
     Waiting(WaitingCell),

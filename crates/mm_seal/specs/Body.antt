@@ -1,5 +1,6 @@
 -- What a body in code says, as plain data, and what reading one gives.
-use Rattle.std.specs.Prelude.{◌≡◌, ◌≢◌, ◌+◌, ◌≤◌, ℕ, List, ◌++◌, length, slice_index}
+use Rattle.std.specs.Prelude.{◌≡◌, ◌≢◌, ◌+◌, ◌<◌, ◌≤◌, ◌^◌, ℕ, List, ◌++◌, length, slice_index}
+use Rattle.mm_base.specs.Fields.{eight_bytes, four_bytes}
 use Rattle.mm_base.specs.Limits.{last_position, limit_of}
 use Rattle.mm_digest.specs.declared.variant.Variant.{Variant}
 use Rattle.mm_digest.specs.declared.variant.Variant.TheVariants.{Basic, Opt}
@@ -38,6 +39,12 @@ HasFieldsOf front variant =
 abbrev pub HasPlaceInFront : List ℕ → Variant → Place → List ℕ → Type 0
 HasPlaceInFront bytes variant place rest =
     (bytes ≡ place_spelling place ++ rest) × (variant_of place ≡ variant) × IsPlace place
+
+-- the position and the length of the state in front of the bytes, and the rest
+abbrev pub HasNumbersInFront : List ℕ → ℕ → ℕ → List ℕ → Type 0
+HasNumbersInFront bytes position size rest =
+    (bytes ≡ eight_bytes position ++ (four_bytes size ++ rest)) × (position < 2 ^ 64)
+    × (size < 2 ^ 32)
 
 -- the head is the content's, and the content is within its bounds and has this length
 abbrev pub HasHead : Content → List ℕ → ℕ → Type 0

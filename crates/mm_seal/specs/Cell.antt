@@ -1,5 +1,6 @@
 -- The bytes of the non-volatile cell.
-use Rattle.std.specs.Prelude.{◌≡◌, ◌≢◌, ℕ, Bool, true, false, List, ◌∷◌, ◌++◌, length, replicate, Result, Ok, Err}
+use Rattle.std.specs.Prelude.{◌≡◌, ◌≢◌, ◌==◌, ℕ, Bool, true, false, List, ◌∷◌, ◌++◌, length, replicate, Result, Ok, Err}
+use Rattle.std.specs.Prelude.{take, drop, slice_index}
 use Rattle.mm_base.specs.Limits.{cell_length}
 use Rattle.mm_digest.specs.declared.variant.Variant.{Variant}
 use Rattle.mm_digest.specs.declared.variant.Variant.TheVariants.{Basic, Opt}
@@ -30,6 +31,17 @@ unfoldable pub cell_spelling : Cell → List ℕ
 cell_spelling cell =
     0x4d ∷ 0x4d ∷ 0x4e ∷ version_of cell.module ∷ variant_byte cell.variant ∷ cell.module
     ∷ flag_byte cell.flag ∷ 0 ∷ (cell.summary.bytes ++ (cell.key ++ cell.barrier))
+
+-- the cell of this variant whose fields stand at their offsets in the bytes
+abbrev pub cell_at : Variant → List ℕ → Cell
+cell_at variant bytes = record {
+  variant = variant;
+  «module» = slice_index bytes 5;
+  flag = slice_index bytes 6 == 1;
+  summary = record { bytes = take 32 (drop 8 bytes) };
+  key = take 32 (drop 40 bytes);
+  barrier = take 32 (drop 72 bytes);
+}
 
 -- what a device holds before it is provisioned
 unfoldable pub blank_cell : List ℕ

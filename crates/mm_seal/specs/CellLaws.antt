@@ -1,8 +1,8 @@
 -- Laws of the cell's spelling.
 use Rattle.std.proofs.Common.{Result, Ok, Err, ◌≢◌, ℕ, ◌≡◌, Bool, true, false, List, [], ◌∷◌, ◌++◌, length, get_or, refl, ap, sym, ◌∙◌}
-use Rattle.std.proofs.Common.{arith}
+use Rattle.std.proofs.Common.{◌+◌, ◌<◌, ◌≤◌, take, drop, arith, length-drop}
 use Rattle.std.specs.Prelude.{◌==◌}
-use Rattle.std.proofs.lemmas.List.{append-nil}
+use Rattle.std.proofs.lemmas.List.{append-nil, drop-drop, get_or-take, length-take, take-append-drop}
 use Rattle.mm_digest.specs.declared.variant.Variant.{Variant}
 use Rattle.mm_digest.specs.declared.variant.Variant.TheVariants.{Basic, Opt}
 use Rattle.mm_digest.specs.Messages.{variant_byte}
@@ -10,7 +10,7 @@ use Rattle.mm_seal.specs.declared.cell.Cell.{Cell}
 use Rattle.mm_seal.specs.declared.cell.CellFault.{CellFault}
 use Rattle.mm_seal.specs.declared.cell.CellFault.TheVariants.{Blank, Cell as Unspelled}
 use Rattle.mm_seal.specs.Fields.{version_of}
-use Rattle.mm_seal.specs.Cell.{IsCell, ReadsCell, flag_byte, cell_spelling, blank_cell}
+use Rattle.mm_seal.specs.Cell.{IsCell, ReadsCell, cell_at, flag_byte, cell_spelling, blank_cell}
 use Rattle.mm_base.specs.FieldLaws.{append-injective}
 
 pub variant_byte-injective : (v w : Variant) → variant_byte v ≡ variant_byte w → v ≡ w
@@ -81,6 +81,25 @@ module _ (bytes head summary key barrier a s k r : List ℕ) (cell : Cell) (is :
         key = f.at_key i;
         barrier = f.at_barrier i;
       }
+
+-- so only the cell of the fields at their offsets is spelled so
+pub cell_at-only : (bytes : List ℕ) (cell : Cell) (v : Variant) → IsCell cell → bytes ≡ cell_spelling cell → length bytes ≡ 104
+    → variant_byte v ≡ get_or bytes 4 0 → cell_at v bytes ≡ cell
+cell_at-only bytes cell v is e size t =
+    let byte : (i : ℕ) → i < 8 → get_or bytes i 0 ≡ get_or (take 8 bytes) i 0 = λ i below. sym (get_or-take 8 bytes i 0 below) in
+    let field : (n : ℕ) → n + 32 ≤ 104 → (drop n bytes ≡ take 32 (drop n bytes) ++ drop (n + 32) bytes) × (length (take 32 (drop n bytes)) ≡ 32) =
+    λ n within. (
+      sym (take-append-drop 32 (drop n bytes)) ∙ ap (λ (back : List ℕ). take 32 (drop n bytes) ++ back) (drop-drop 32 n bytes),
+      omega (arith, length-take 32 (drop n bytes), length-drop n bytes),
+    ) in
+    (λ i. record (cell_at v bytes) { «module» = byte 5 (omega arith) i; flag = byte 6 (omega arith) i == 1 })
+    ∙ cell_of_fields-only bytes (take 8 bytes) (take 32 (drop 8 bytes)) (take 32 (drop 40 bytes)) (take 32 (drop 72 bytes)) _ _ _ _ cell is e
+    (sym (take-append-drop 8 bytes)) (omega (arith, length-take 8 bytes)) (field 8 (omega arith)) (field 40 (omega arith))
+    (field 72 (omega arith)) v (t ∙ byte 4 (omega arith))
+
+pub variant_in_spelling : (bytes : List ℕ) (cell : Cell) → bytes ≡ cell_spelling cell → variant_byte cell.variant ≡ get_or bytes 4 0
+unfolding cell_spelling
+variant_in_spelling bytes cell e = sym (ap (λ (x : List ℕ). get_or x 4 0) e)
 
 -- each list of bytes is one cell's at most
 pub cell_spelling-injective : (a b : Cell) → IsCell a → IsCell b → cell_spelling a ≡ cell_spelling b → a ≡ b

@@ -61,14 +61,13 @@ no_front-fields front v t h x is e =
     omega (arith, ap length e, length-snapshot_front x is, ap place_length same)
 
 -- bytes with room for the fields do not end before them
-pub no_end_in_fields : (v : Variant) (place : Place) (position : ℕ) (front head r₁ r₂ r₃ : List ℕ) → 18 + place_length v ≤ length front
+pub no_end_in_fields : (v : Variant) (place : Place) (front head r₁ r₂ : List ℕ) → 18 + place_length v ≤ length front
     → front ≡ head ++ r₁ → length head ≡ 6 → r₁ ≡ place_spelling place ++ r₂ → variant_of place ≡ v → IsPlace place
-    → r₂ ≡ eight_bytes position ++ r₃ → length r₃ < 4 → ⊥
-no_end_in_fields v place position front head r₁ r₂ r₃ room e₁ h e₂ t is e₃ short =
+    → length r₂ < 12 → ⊥
+no_end_in_fields v place front head r₁ r₂ room e₁ h e₂ t is short =
     let l₁ = ap length e₁ ∙ length-append head r₁ in
     let l₂ = ap length e₂ ∙ length-append (place_spelling place) r₂ in
-    let l₃ = ap length e₃ ∙ length-append (eight_bytes position) r₃ in
-    omega (arith, l₁, l₂, l₃, length-place_spelling place is, length-eight_bytes position, ap place_length t)
+    omega (arith, l₁, l₂, length-place_spelling place is, ap place_length t)
 
 place_spelling-injective : (p q : Place) → IsPlace p → IsPlace q → variant_of p ≡ variant_of q → place_spelling p ≡ place_spelling q → p ≡ q
 place_spelling-injective (Basic a) (Basic b) ip iq v e = λ i. Basic (record { bytes = e i })

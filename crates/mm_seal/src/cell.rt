@@ -1,15 +1,15 @@
 //! The non-volatile cell: what a platform keeps without power.
 
 ghost use Rattle.std.specs.Prelude.{◌≡◌, ◌↔◌, IsTrue, MatchOption};
-ghost use Rattle.mm_seal.specs.Cell.{FitsVariant, cell_spelling, IsNoCell, SpellsCell, ReadsCell};
+ghost use Rattle.mm_seal.specs.Cell.{FitsVariant, cell_at, cell_spelling, IsNoCell, SpellsCell, ReadsCell};
 
-use crate::field::{split_digest, split_key, version};
+use crate::field::{digest_at, version};
 use mm_base::CELL_LENGTH;
 use mm_digest::{Digest, Variant};
 use thiserror::Error;
 
 /// What the cell holds once the platform is provisioned.
-#[derive(Clone, Copy, Debug, PartialEq, Eq)]
+#[derive(Clone, Copy, PartialEq, Eq)]
 pub struct Cell {
     pub variant: Variant,
     /// The module's id.
@@ -92,23 +92,28 @@ pub fn read_cell(bytes: &[u8; CELL_LENGTH]) -> Result<Cell, CellFault>
 fn cell_of(bytes: &[u8; CELL_LENGTH]) -> Option<Cell>
     ensures { MatchOption result (IsNoCell bytes.now) (SpellsCell bytes.now) }
 {
-    let (head, rest) = bytes.split_at(8);
-    let (summary, rest) = split_digest(rest)?;
-    let (key, rest) = split_key(rest)?;
-    let (barrier, _) = split_key(rest)?;
-    let variant = Variant::of_byte(head[4])?;
-    let cell = Cell {
-        variant,
-        module: head[5],
-        flag: head[6] == 1,
-        summary,
-        key,
-        barrier,
-    };
+    let variant = Variant::of_byte(bytes[4])?;
+    let cell = cell_at(variant, bytes);
     if cell.fits_variant() && is_spelled(&cell, bytes) {
         Some(cell)
     } else {
         None
+    }
+}
+
+// The cell of this variant whose fields stand at their offsets in these bytes.
+fn cell_at(variant: Variant, bytes: &[u8; CELL_LENGTH]) -> Cell
+    ensures { result ≡ cell_at variant bytes.now }
+{
+    let Digest { bytes: key } = digest_at(bytes, 40);
+    let Digest { bytes: barrier } = digest_at(bytes, 72);
+    Cell {
+        variant,
+        module: bytes[5],
+        flag: bytes[6] == 1,
+        summary: digest_at(bytes, 8),
+        key,
+        barrier,
     }
 }
 

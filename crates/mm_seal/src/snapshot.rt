@@ -6,9 +6,9 @@ ghost use Rattle.mm_digest.specs.Hmac.{hmac_of};
 ghost use Rattle.mm_seal.specs.Snapshot.{variant_of, place_spelling, IsPlace, snapshot_front, sealed_snapshot_of, IsOfKind, IsNoSnapshot, SpellsSnapshot, ReadsParts, OpensOffer, HasOneSpelling};
 ghost use Rattle.mm_seal.specs.SnapshotWords.{front_head};
 ghost use Rattle.mm_seal.specs.Parts.{parts_of};
-ghost use Rattle.mm_seal.specs.Body.{content_of, SpellsNoContent, SpellsContent, HasFieldsOf, HasHead, HasPlaceInFront, place_length};
+ghost use Rattle.mm_seal.specs.Body.{content_of, SpellsNoContent, SpellsContent, HasFieldsOf, HasHead, HasNumbersInFront, HasPlaceInFront, place_length};
 
-use crate::field::{split_digest, version};
+use crate::field::{digest_at, version};
 use crate::sealing::SealingKey;
 use mm_base::{Bytes, LAST_POSITION, Memory, bytes_of_u32, bytes_of_u64, split_u32, split_u64};
 use mm_digest::{Digest, Variant};
@@ -74,7 +74,7 @@ pub enum OpenFault {
 }
 
 /// An offered snapshot, taken apart: its content, the bytes that were signed, and its tag.
-#[derive(Debug, Drop)]
+#[derive(Drop)]
 pub struct Offered<'a> {
     body: Body<'a>,
     signed: &'a [u8],
@@ -291,9 +291,8 @@ fn body_of(front: &[u8]) -> Option<Body<'_>>
 {
     let variant = variant_at(front)?;
     let (head, rest) = front.split_at(6);
-    let (place, rest) = split_place(variant, rest)?;
-    let (position, rest) = split_u64(rest)?;
-    let (length, state) = split_u32(rest)?;
+    let (place, rest) = split_place(variant, rest);
+    let (position, length, state) = split_numbers(rest)?;
     let body = Body {
         module: head[5],
         place,
@@ -332,19 +331,40 @@ fn place_len(variant: Variant) -> usize
 }
 
 // The place in front, and the rest.
-fn split_place(variant: Variant, bytes: &[u8]) -> Option<(Place, &[u8])>
-    ensures { MatchOption result (length bytes.now < place_length variant)
-        (λ p. HasPlaceInFront bytes.now variant p.0 p.1.now) }
+fn split_place(variant: Variant, bytes: &[u8]) -> (Place, &[u8])
+    requires { place_length variant ≤ length bytes.now }
+    ensures { HasPlaceInFront bytes.now variant result.0 result.1.now }
 {
-    let (digest, rest) = split_digest(bytes)?;
+    let (place, rest) = bytes.split_at(place_len(variant));
+    (place_in(variant, place), rest)
+}
+
+// The place that these bytes spell.
+fn place_in(variant: Variant, bytes: &[u8]) -> Place
+    requires { length bytes.now ≡ place_length variant }
+    ensures spelled { place_spelling result ≡ bytes.now }
+    ensures variant { variant_of result ≡ variant }
+    ensures place { IsPlace result }
+{
+    let digest = digest_at(bytes, 0);
     match variant {
-        Variant::Basic => Some((Place::Basic(digest), rest)),
-        Variant::Opt => {
-            let (extension, rest) = split_digest(rest)?;
-            let anchor = digest;
-            Some((Place::Opt { anchor, extension }, rest))
-        }
+        Variant::Basic => Place::Basic(digest),
+        Variant::Opt => Place::Opt {
+            anchor: digest,
+            extension: digest_at(bytes, 32),
+        },
     }
+}
+
+// The position and the length of the state in front, and the rest. None exactly where there are
+// fewer bytes.
+fn split_numbers(bytes: &[u8]) -> Option<(u64, u32, &[u8])>
+    ensures { MatchOption result (length bytes.now < 12)
+        (λ p. HasNumbersInFront bytes.now p.0 p.1 p.2.now) }
+{
+    let (position, rest) = split_u64(bytes)?;
+    let (length, state) = split_u32(rest)?;
+    Some((position, length, state))
 }
 
 // Whether the head is the body's, and the body is within its bounds and has this length.

@@ -1,7 +1,7 @@
-use Rattle.mm_seal.proofs.Below.{◌≡◌, sym, ◌∙◌, ap, subst, true, false, joined}
+use Rattle.mm_seal.proofs.Below.{◌≡◌, sym, ◌∙◌, ap, subst, true, false, arith}
 use Rattle.mm_seal.specs.declared.cell.Cell.{Cell}
 use Rattle.mm_seal.specs.Cell.{FitsVariant, cell_spelling, IsNoCell}
-use Rattle.mm_seal.specs.CellLaws.{fields-cell_spelling, cell_of_fields-only}
+use Rattle.mm_seal.specs.CellLaws.{cell_at-only, variant_in_spelling}
 use Rattle.mm_seal.proofs.cell.cell_of.Goals as goal
 use Rattle.mm_seal.proofs.cell.cell_of.Goals.{else-fits_variant-via-then-fits_variant+else-is_spelled}
 use Rattle.mm_seal.proofs.cell.cell_of.Goals.{else-fits_variant-via-else-fits_variant}
@@ -9,18 +9,14 @@ use Rattle.mm_seal.proofs.cell.cell_of.Goals.{else-fits_variant-via-else-fits_va
 pub returns-in_err-variant : goal.returns-in_err-variant
 returns-in_err-variant c =
     let none : IsNoCell c.args.bytes.now =
-    λ cell is e. c.in_err-variant.ensures cell.variant
-    (fields-cell_spelling _ _ _ _ _ _ _ _ _ cell is e (joined 8 _ _ _ c.split_at.ensures.front c.split_at.ensures.back)
-    c.split_at.ensures.front_len c.in_ok-summary.ensures c.in_ok-key.ensures c.in_ok-barrier.ensures).variant
-    in
-    rw c.from_residual-in_err-variant.ensures none
+    λ cell is e. c.in_err-variant.ensures cell.variant (variant_in_spelling c.args.bytes.now cell e) in
+    rw c.from_residual.ensures none
 
 pub returns-else-fits_variant : goal.returns-else-fits_variant
 returns-else-fits_variant c cell is e =
-    let same =
-    cell_of_fields-only _ _ _ _ _ _ _ _ _ cell is e (joined 8 _ _ _ c.split_at.ensures.front c.split_at.ensures.back)
-    c.split_at.ensures.front_len c.in_ok-summary.ensures c.in_ok-key.ensures c.in_ok-barrier.ensures
-    c.in_ok-variant.variant c.in_ok-variant.ensures
+    let same : c.cell_at-cell.result ≡ cell =
+    c.cell_at-cell.ensures
+    ∙ cell_at-only c.args.bytes.now cell c.in_ok-variant.variant is e (omega arith) c.in_ok-variant.ensures
     in
     let fits = subst (λ (x : Cell). FitsVariant x.variant x.flag x.barrier) (sym same) is.variant in
     let spelled = e ∙ sym (ap cell_spelling same) in
