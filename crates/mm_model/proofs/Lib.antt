@@ -1,6 +1,7 @@
 pub mod Above
 mod Below
 mod Runs
+mod Members
 mod Paths
 mod Opt
 mod HistoryParts

@@ -12,6 +12,7 @@ pub mod Messages
 pub mod Standing
 pub mod Codes
 pub mod Run
+pub mod PartialRun
 pub mod Examples
 pub mod Long
 pub mod Moves

@@ -4,47 +4,36 @@ ghost use Rattle.std.specs.Prelude.{◌≡◌};
 
 use mm_base::Memory;
 use mm_platform::StepFault;
-use thiserror::Error;
+use std::error::Error;
+use std::fmt;
 
 /// Why a call was refused, in the order in which a call looks for it, but for Device and Memory.
-#[derive(Clone, Copy, Debug, PartialEq, Eq, Error)]
+#[derive(Clone, Copy, Debug, PartialEq, Eq)]
 pub enum Refusal {
     /// Want of memory, before anything was changed.
-    #[error("out of memory")]
     Memory,
     /// The text of the batch has more than 4,096 bytes or an LF, or there are more than 64
     /// requests.
-    #[error("the request is too long")]
     Long,
     /// A step of the platform failed.
-    #[error("a step of the platform failed")]
     Device(StepFault),
     /// The cell is blank: 104 zero bytes.
-    #[error("the cell is blank")]
     Blank,
     /// The cell isn't one of this variant and module.
-    #[error("the cell isn't one of this module")]
     Cell,
     /// Power was lost inside an open segment.
-    #[error("power was lost inside an open segment")]
     Lost,
     /// The offered bytes aren't a snapshot.
-    #[error("the offer isn't a snapshot")]
     Form,
     /// The offered snapshot is of another variant or module.
-    #[error("the snapshot is of another variant or module")]
     Kind,
     /// The offered state isn't one of the module's.
-    #[error("the snapshot's state isn't one of the module's")]
     State,
     /// The offered snapshot isn't sealed under the cell's key.
-    #[error("the snapshot isn't sealed under the platform's key")]
     Tag,
     /// The offered snapshot is neither the newest nor the one before a repeated batch.
-    #[error("the snapshot is stale")]
     Stale,
     /// The position after the batch would exceed 2^48.
-    #[error("there are no positions left")]
     Full,
 }
 
@@ -90,4 +79,30 @@ impl Refusal {
             Refusal::Full => 12,
         }
     }
+
+    // The reason in words.
+    fn reason(&self) -> &'static str {
+        match self {
+            Refusal::Memory => "out of memory",
+            Refusal::Long => "the request is too long",
+            Refusal::Device(_) => "a step of the platform failed",
+            Refusal::Blank => "the cell is blank",
+            Refusal::Cell => "the cell isn't one of this module",
+            Refusal::Lost => "power was lost inside an open segment",
+            Refusal::Form => "the offer isn't a snapshot",
+            Refusal::Kind => "the snapshot is of another variant or module",
+            Refusal::State => "the snapshot's state isn't one of the module's",
+            Refusal::Tag => "the snapshot isn't sealed under the platform's key",
+            Refusal::Stale => "the snapshot is stale",
+            Refusal::Full => "there are no positions left",
+        }
+    }
 }
+
+impl fmt::Display for Refusal {
+    fn fmt<W: fmt::Write>(&self, f: &mut fmt::Formatter<W>) -> fmt::Result {
+        f.write_str(self.reason())
+    }
+}
+
+impl Error for Refusal {}
