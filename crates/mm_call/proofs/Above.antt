@@ -1,6 +1,6 @@
 -- What crates above may cite of these proofs: the other files can be read and changed by this crate alone.
 pub use Rattle.mm_call.proofs.BasicLaw.{basic_calls_agree, basic_same, names_made, plain_outside, unlacked}
-pub use Rattle.mm_call.proofs.Calling.{again_of, fresh_found, fresh_of, requests-push, said_last}
+pub use Rattle.mm_call.proofs.Calling.{again_of, fresh_found, fresh_of, said_last}
 pub use Rattle.mm_call.proofs.Checkpoints.{basic_checkpoint_same, basic_checkpoints_agree, opt_checkpoints_agree}
 pub use Rattle.mm_call.proofs.Checkpoints.{opt_checkpoints_agree_by_lists, read_moves}
 pub use Rattle.mm_call.proofs.Coming.{answered_at, asked_for, asked_idle, basic_asked, basic_comes, idle_again, idle_moves, opt_comes}
@@ -30,3 +30,4 @@ pub use Rattle.mm_call.proofs.Turning.{finish_blamed, IsQuiet, reads_blamed, ste
 pub use Rattle.mm_call.proofs.Turning.{turn_hands}
 pub use Rattle.mm_call.proofs.Untouched.{calls_blamed, calls_untouched, register_untouched, then_untouched}
 pub use Rattle.mm_call.specs.TrailLaws.{foreign_made as brought_digests}
+pub use Rattle.mm_model.specs.BatchLaws.{requests-push}

@@ -1,12 +1,11 @@
 -- The words and laws that the proofs of this crate take from specs/ and from the crates below.
-pub use Rattle.std.specs.List.{AllByRecursion, Contains, fold, slice_get}
+pub use Rattle.std.specs.List.{AllByRecursion, Contains, fold}
 pub use Rattle.std.specs.Option.{option_map}
 pub use Rattle.std.specs.Prelude.{if◌then◌else◌, IsSome, nat_eq, nat_le, not, ◌==◌}
 pub use Rattle.std.specs.Str.{bytes_eq}
-pub use Rattle.std.proofs.Common.{[], add-one, ap, append_assoc, arith, Bool, drop, drop-cons, Err, false, IfOk, inl, inr, IsTrue, length}
-pub use Rattle.std.proofs.Common.{List, map, None, Ok, Option, refl, Result, Some, subst, suc, sym, true, ℕ, ◌&&◌, ◌++◌, ◌+◌, ◌-◌, ◌<◌, ◌∙◌}
+pub use Rattle.std.proofs.Common.{[], ap, append_assoc, arith, Bool, drop, Err, false, IfOk, inl, inr, IsTrue, length}
+pub use Rattle.std.proofs.Common.{List, map, None, Ok, Option, refl, Result, Some, subst, suc, sym, true, ℕ, ◌&&◌, ◌++◌, ◌+◌, ◌-◌, ◌∙◌}
 pub use Rattle.std.proofs.Common.{◌∷◌, ◌≡◌, ◌≤◌, ◌⊎◌}
-pub use Rattle.std.proofs.lemmas.Grind.{flat_map-append}
 pub use Rattle.std.proofs.lemmas.List.{append-nil, map-append}
 pub use Rattle.mm_base.specs.Faults.{next_count}
 pub use Rattle.mm_base.specs.Limits.{last_position, limit_of}
@@ -25,7 +24,7 @@ pub use Rattle.mm_module.specs.Batches.{batch_of}
 pub use Rattle.mm_module.specs.Meaning.{IsLawful, Meaning, outputs_from, state_after}
 pub use Rattle.mm_module.specs.MeaningWords.{state_from}
 pub use Rattle.mm_module.specs.RunLaws.{length-outputs_from, outputs_from-append, state_after-append, state_from-is_spelled}
-pub use Rattle.mm_model.specs.BatchLaws.{at_the_end, before_the_last, total-push}
+pub use Rattle.mm_model.specs.BatchLaws.{at_the_end, before_the_last, requests-push, total-push}
 pub use Rattle.mm_model.specs.ChainLaws.{after-append, trail-append, trail_push}
 pub use Rattle.mm_model.specs.Chains.{digest_after, guard, guard_message, link, link_message, register_of, summary_of, trail}
 pub use Rattle.mm_model.specs.ChainsWords.{own_values}
@@ -79,7 +78,6 @@ pub use Rattle.mm_call.specs.UntouchedLaws.{blamed, blamed_later, fault_handed}
 pub use Rattle.mm_call.specs.Levels.{DigestsAgree, state_after_moves, digest_level, list_level, Level, place_after_batch}
 pub use Rattle.mm_call.specs.MoveLaws.{agrees-made, batches-made, committed_batches, IsBasicMove, more_batches, plain-made, same_batches}
 pub use Rattle.mm_call.specs.Premises.{AreAsked, AreShown, IsIdle}
-pub use Rattle.mm_call.specs.PartialRun.{IsPartialRun}
 pub use Rattle.mm_call.specs.Refusals.{fault_in, fault_of}
 pub use Rattle.mm_call.specs.ShowingLaws.{asked_by, MovesCount, counts_open, same_rest}
 pub use Rattle.mm_call.specs.Standing.{cell_at, instance_by, RegisterStandsAt, items_after_moves, items_after_move, StandsAt}

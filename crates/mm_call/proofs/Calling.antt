@@ -1,6 +1,6 @@
 -- What a call answers and how it ends, by lists and by digests; and, in Basic, the messages of a history that goes on by the batch.
 use Rattle.mm_call.proofs.Below.{ℕ, ◌≡◌, ◌+◌, ◌-◌, Bool, true, false, List, [], ◌∷◌, ◌++◌, drop, refl, sym, ap, ◌∙◌, subst, arith}
-use Rattle.mm_call.proofs.Below.{if◌then◌else◌, Contains, flat_map-append, append-nil, Basic, start_digest_of, Meaning, state_after}
+use Rattle.mm_call.proofs.Below.{if◌then◌else◌, Contains, requests-push, append-nil, Basic, start_digest_of, Meaning, state_after}
 use Rattle.mm_call.proofs.Below.{outputs_from, state_from, Batch, members_of, size_of, state_after-append, outputs_from-append}
 use Rattle.mm_call.proofs.Below.{length-outputs_from, Content, sealed_snapshot_of, Place, InBasic, InOpt, link, link_message, trail}
 use Rattle.mm_call.proofs.Below.{Instance, basic_instance, History, requests_of, total_of, AreMessagesIn, history_messages, offer_messages}
@@ -12,9 +12,6 @@ use Rattle.mm_call.proofs.Below.{commits-none}
 use Rattle.mm_model.specs.Chains.{summary_of}
 use Rattle.std.proofs.lemmas.List.{drop_at}
 use Rattle.mm_call.proofs.Finding.{Placed}
-
-pub requests-push : (bs : List Batch) (b : Batch) → requests_of (bs ++ b ∷ []) ≡ requests_of bs ++ members_of b
-requests-push bs b = flat_map-append members_of bs (b ∷ []) ∙ ap (λ v. requests_of bs ++ v) (append-nil (members_of b))
 
 -- the position before the last batch, and what is said to it
 pub before_last : (batches named : List Batch) (b : Batch) → batches ≡ named ++ b ∷ [] → total_of batches - size_of b ≡ total_of named

@@ -2,7 +2,6 @@ pub mod Above
 mod Below
 mod Machine
 mod Turning
-mod Members
 mod Finding
 mod Calling
 mod OptHolding

@@ -38,7 +38,7 @@ pub use Rattle.mm_model.specs.History.{Close, Commit, Foreign, History, Move, Pl
 pub use Rattle.mm_model.specs.History.{history_after, register_value_of, requests_of, total_of}
 pub use Rattle.mm_model.specs.HistoryWords.{cell_digest_of}
 pub use Rattle.mm_model.specs.Instance.{Instance}
-pub use Rattle.mm_model.specs.InstanceWords.{basic_instance, opt_instance}
+pub use Rattle.mm_model.specs.InstanceWords.{basic_instance, instance_by, opt_instance}
 pub use Rattle.mm_model.specs.Verdicts.{verdict_on, verdict_by_digests}
 pub use Rattle.mm_model.specs.Life.{is_lost, life_of}
 pub use Rattle.mm_model.specs.Long.{is_long}

@@ -1,7 +1,6 @@
 pub mod Below
 pub mod Order
 pub mod Answers
-pub mod PartialRun
 pub mod Refusals
 pub mod Untouched
 pub mod Levels

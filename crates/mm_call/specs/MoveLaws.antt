@@ -5,7 +5,7 @@ use Rattle.std.specs.List.{AllByRecursion}
 use Rattle.mm_call.specs.Below.{start_digest_of, Variant, Basic, Opt, Batch, Meaning, basic_digests, History, Move, Commit, Foreign, Close}
 use Rattle.mm_call.specs.Below.{Power, history_after_commit, history_after, Instance, basic_instance, Digests, digests_of, digests_after}
 use Rattle.mm_call.specs.Below.{MayMove}
-use Rattle.mm_model.specs.Chains.{anchor_of, summary_of}
+pub use Rattle.mm_model.specs.DigestLaws.{anchor-nil, summary-nil}
 use Rattle.mm_call.specs.CallPremises.{IsPlain}
 use Rattle.mm_call.specs.Levels.{list_level, digest_level, state_after_moves, DigestsAgree}
 
@@ -19,14 +19,6 @@ IsBasicMove _ = ⊥
 may_move : (meaning : Meaning) (key : List ℕ) (y : History) (m : Move) → IsBasicMove m → MayMove (basic_instance meaning key) y m
 may_move meaning key y (Commit b) is = is
 may_move meaning key y _ is = is
-
-pub summary-nil : (id : ℕ) → start_digest_of Basic id ≡ summary_of id []
-unfolding summary_of
-summary-nil id = refl
-
-pub anchor-nil : (id : ℕ) → start_digest_of Opt id ≡ anchor_of id []
-unfolding anchor_of
-anchor-nil id = refl
 
 pub agrees-moved : (meaning : Meaning) (key : List ℕ) (y : History) (d : Digests) (m : Move) → IsBasicMove m
     → DigestsAgree (basic_instance meaning key) y d → DigestsAgree (basic_instance meaning key)

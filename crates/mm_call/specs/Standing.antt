@@ -3,13 +3,7 @@ use Rattle.std.specs.Prelude.{◌≡◌, ℕ, zero, suc, Bool, true, List, [], �
 use Rattle.mm_call.specs.Below.{next_count, zero_bytes, Variant, Basic, Opt, IsCell, cell_spelling, Cell, Item, own_item, foreign_item}
 use Rattle.mm_call.specs.Below.{Standing, Meaning, guard, Move, Commit, Foreign, Placed, Reset, Power, Instance, Digests, digests_after}
 use Rattle.mm_call.specs.Below.{digest_of, register_reading}
-
--- the instance of a variant; Basic has no barrier, and ignores it
-abbrev pub instance_by : Variant → Meaning → (key barrier : List ℕ) → Instance
-instance_by Basic meaning key barrier =
-    record { variant = Basic; meaning = meaning; key = key; barrier = zero_bytes }
-instance_by Opt meaning key barrier =
-    record { variant = Opt; meaning = meaning; key = key; barrier = barrier }
+pub use Rattle.mm_call.specs.Below.{instance_by}
 
 -- the cell of an instance with these digests
 abbrev pub cell_at : Instance → Digests → Cell

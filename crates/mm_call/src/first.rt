@@ -10,7 +10,7 @@ use mm_seal::{Body, Cell, Place, cell_bytes, seal};
 use std::alloc::Global;
 
 /// The first cell and the snapshot of position 0.
-#[derive(Debug, Drop)]
+#[derive(Drop)]
 pub struct Provisioned {
     /// The cell's 104 bytes.
     pub cell: [u8; CELL_LENGTH],

@@ -7,14 +7,15 @@
 //! the order in which an offer is refused.
 #![tactic(auto)]
 
+mod answering;
 mod ended;
 mod examining;
 mod first;
 mod laws;
-mod run;
 mod turn;
 mod whole;
 
+pub use answering::answer;
 pub use ended::{AskResult, refusal_of};
 pub use examining::examine;
 pub use first::{Provisioned, provision_with};
@@ -22,7 +23,7 @@ pub use laws::{
     basic_calls_agree, basic_checkpoints_agree, opt_calls_agree, opt_checkpoints_agree, opt_tied,
     trails_lead,
 };
+pub use mm_model::{BatchRun, run_batch};
 pub use mm_seal::KeptKey;
-pub use run::{BatchRun, answer, run_batch};
 pub use turn::Turn;
 pub use whole::{Committed, commit, finish_call, read_call};

@@ -31,6 +31,7 @@ pub use Rattle.mm_model.specs.History.{extension_value}
 pub use Rattle.mm_model.specs.HistoryLaws.{has_value-append, renamed-push}
 pub use Rattle.mm_model.specs.HistoryWords.{values_of}
 pub use Rattle.mm_model.specs.Instance.{Instance}
+pub use Rattle.mm_model.specs.InstanceWords.{instance_by}
 pub use Rattle.mm_model.specs.KeptHistory.{kept_batch, kept_batches, kept_entries, kept_entry, kept_segments}
 pub use Rattle.mm_model.specs.Life.{has_value, is_empty, is_same_batch}
 pub use Rattle.mm_model.specs.Long.{is_long}
@@ -38,7 +39,6 @@ pub use Rattle.mm_model.specs.Places.{anchor_after, at_anchor, in_closed, in_cur
 pub use Rattle.mm_model.specs.SegmentLaws.{joined-push, not_empty}
 pub use Rattle.mm_model.specs.declared.kept.KeptBatch.{KeptBatch}
 pub use Rattle.mm_model.specs.declared.kept.KeptEntry.{KeptEntry}
-pub use Rattle.mm_call.specs.Standing.{instance_by}
 pub use Rattle.mm_history.specs.MarkLaws.{and_true, own_more}
 pub use Rattle.mm_history.specs.Naming.{anchor_at, first_with, is_at, is_behind, is_here, is_inside_at, is_named, is_named_at, is_place}
 pub use Rattle.mm_history.specs.Naming.{is_place_in, is_within, IsDecided, same_batches, some_place}

@@ -9,7 +9,7 @@ use Rattle.std.specs.Prelude.{◌&&◌}
 use Rattle.mm_module.specs.MeaningWords.{state_from}
 use Rattle.mm_model.specs.Chains.{anchor_of}
 use Rattle.mm_model.specs.DigestLaws.{anchor-push}
-use Rattle.mm_call.proofs.Above.{requests-push}
+use Rattle.mm_model.specs.BatchLaws.{requests-push}
 use Rattle.std.proofs.lemmas.Bool.{false_from_ne_true}
 use Rattle.std.proofs.lemmas.List.{take_more}
 use Rattle.mm_history.proofs.FirstLaws.{same-Decides}

@@ -1,14 +1,13 @@
 //! A history as lists.
 
-ghost use Rattle.std.specs.Prelude.{◌≡◌, ◌<◌, IfOk, OnOk, vec_len, vec_capacity};
-ghost use Rattle.mm_module.specs.Batches.{batch_of};
+ghost use Rattle.std.specs.Prelude.{◌≡◌, ◌<◌, vec_len, vec_capacity};
 ghost use Rattle.mm_model.specs.History.{entries_with_last_batch};
 ghost use Rattle.mm_model.specs.KeptHistory.{kept_batch, kept_entries};
 
 use crate::marks::register_of;
 use mm_base::Memory;
 use mm_digest::Digest;
-use mm_model::{KeptBatch, KeptEntry, copy_entries, last_is, some_value};
+use mm_model::{KeptBatch, KeptEntry, copies_of, copy_entries, last_is, reserve_one, some_value};
 use mm_module::Batch;
 use std::alloc::Global;
 use std::marker::Model;
@@ -37,37 +36,6 @@ impl Model for HistoryLists {
       is_open = s.is_open;
       items = kept_entries s.items.items;
     } };
-}
-
-// Three copies of a batch.
-fn copies_of(alloc: Global, batch: &Batch<'_>) -> Result<(KeptBatch, KeptBatch, KeptBatch), Memory>
-    ensures { IfOk result (λ copies. (kept_batch copies.0 ≡ batch_of batch.now)
-        × (kept_batch copies.1 ≡ batch_of batch.now)
-        × (kept_batch copies.2 ≡ batch_of batch.now)) }
-{
-    let first = KeptBatch::copy_of(alloc, batch)?;
-    let second = KeptBatch::copy_of(alloc, batch)?;
-    let third = KeptBatch::copy_of(alloc, batch)?;
-    Ok((first, second, third))
-}
-
-// Room for one more in each list.
-fn reserve_one(
-    batches: &mut Vec<KeptBatch>,
-    current: &mut Vec<KeptBatch>,
-    items: &mut Vec<KeptEntry>,
-) -> Result<(), Memory>
-    ensures batches { batches.new.items ≡ batches.old.items }
-    ensures current { current.new.items ≡ current.old.items }
-    ensures items { items.new.items ≡ items.old.items }
-    ensures room { OnOk result ((vec_len batches.new < vec_capacity batches.new)
-        × (vec_len current.new < vec_capacity current.new)
-        × (vec_len items.new < vec_capacity items.new)) }
-{
-    batches.reserve(1)?;
-    current.reserve(1)?;
-    items.reserve(1)?;
-    Ok(())
 }
 
 // The batch's own entry comes in place of the last one.

@@ -1,5 +1,6 @@
 pub mod Above
 mod Below
+mod Members
 mod Paths
 mod Opt
 mod HistoryParts

@@ -3,6 +3,7 @@ use Rattle.std.specs.Prelude.{nat_eq}
 use Rattle.std.proofs.Common.{◌≡◌, ◌+◌, ◌&&◌, ◌++◌, refl, sym, ap, ◌∙◌, arith, length-append, Bool, true, false, List, [], ◌∷◌}
 use Rattle.std.proofs.lemmas.Bool.{and_parts, and_from}
 use Rattle.std.proofs.lemmas.Bool.Decides.{Decides-eqb}
+use Rattle.std.proofs.lemmas.Grind.{flat_map-append}
 use Rattle.std.proofs.lemmas.List.{append-nil}
 use Rattle.std.proofs.lemmas.Slice.Eq.{bytes_eq-Decides}
 use Rattle.std.specs.Bool.{Decides}
@@ -53,6 +54,9 @@ total-append (b ∷ bs) cs =
 
 pub total-push : (bs : List Batch) (b : Batch) → total_of (bs ++ b ∷ []) ≡ total_of bs + size_of b
 total-push bs b = omega (arith, total-append bs (b ∷ []), total-cons b [])
+
+pub requests-push : (bs : List Batch) (b : Batch) → requests_of (bs ++ b ∷ []) ≡ requests_of bs ++ members_of b
+requests-push bs b = flat_map-append members_of bs (b ∷ []) ∙ ap (λ v. requests_of bs ++ v) (append-nil (members_of b))
 
 pub total-nil : (bs : List Batch) → total_of bs ≡ 0 → bs ≡ []
 total-nil [] e = refl

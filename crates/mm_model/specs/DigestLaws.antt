@@ -156,3 +156,12 @@ folded s (v ∷ values) = folded (sha256 (extended_message s v)) values
 pub register_folds : (values : List (List ℕ)) → platform.register_after values ≡ register_of values
 unfolding register_of
 register_folds values = folded zero_bytes values
+
+-- the chains of nothing
+pub summary-nil : (id : ℕ) → start_digest_of Basic id ≡ summary_of id []
+unfolding summary_of
+summary-nil id = refl
+
+pub anchor-nil : (id : ℕ) → start_digest_of Opt id ≡ anchor_of id []
+unfolding anchor_of
+anchor-nil id = refl

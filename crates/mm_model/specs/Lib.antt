@@ -11,6 +11,7 @@ pub mod Steps
 pub mod Messages
 pub mod Standing
 pub mod Codes
+pub mod PartialRun
 pub mod Long
 pub mod Moves
 pub mod KeptHistory

@@ -19,7 +19,7 @@ pub struct Answer {
 }
 
 /// The answer to a batch of requests.
-#[derive(Debug, Drop)]
+#[derive(Drop)]
 pub struct BatchAnswer {
     /// Whether the batch had been committed before.
     pub again: bool,

@@ -1,6 +1,6 @@
 //! Batches and entries of a history, owned.
 
-ghost use Rattle.std.specs.Prelude.{◌≡◌, map, IfOk};
+ghost use Rattle.std.specs.Prelude.{◌≡◌, ◌<◌, map, IfOk, OnOk, vec_len, vec_capacity};
 ghost use Rattle.mm_module.specs.Batch.{normal_batch};
 ghost use Rattle.mm_module.specs.BatchWords.{has_tab};
 ghost use Rattle.mm_module.specs.Batches.{batch_of};
@@ -14,14 +14,14 @@ use mm_module::Batch;
 use std::alloc::Global;
 
 /// A batch: one request, or the text of several with its TABs.
-#[derive(Debug, Drop)]
+#[derive(Drop)]
 pub enum KeptBatch {
     One(Bytes),
     Many(Bytes),
 }
 
 /// What a register took in: a committed batch, or a value that stands for none.
-#[derive(Debug, Drop)]
+#[derive(Drop)]
 pub enum KeptEntry {
     Own(KeptBatch),
     Value(Digest),
@@ -55,30 +55,10 @@ impl KeptBatch {
     pub fn copy_of(alloc: Global, batch: &Batch<'_>) -> Result<KeptBatch, Memory>
         ensures { IfOk result (λ kept. kept_batch kept ≡ batch_of batch.now) }
     {
+        let text = Bytes::copy_of(alloc, batch.text())?;
         match *batch {
-            Batch::One(request) => {
-                let copy = Bytes::copy_of(alloc, request)?;
-                Ok(KeptBatch::One(copy))
-            }
-            Batch::Many(text) => {
-                let copy = Bytes::copy_of(alloc, text)?;
-                Ok(KeptBatch::Many(copy))
-            }
-        }
-    }
-
-    fn copy(&self, alloc: Global) -> Result<KeptBatch, Memory>
-        ensures { IfOk result (λ kept. kept_batch kept ≡ kept_batch self.now) }
-    {
-        match self {
-            KeptBatch::One(request) => {
-                let copy = Bytes::copy_of(alloc, request.as_slice())?;
-                Ok(KeptBatch::One(copy))
-            }
-            KeptBatch::Many(text) => {
-                let copy = Bytes::copy_of(alloc, text.as_slice())?;
-                Ok(KeptBatch::Many(copy))
-            }
+            Batch::One(_) => Ok(KeptBatch::One(text)),
+            Batch::Many(_) => Ok(KeptBatch::Many(text)),
         }
     }
 
@@ -96,16 +76,7 @@ impl KeptBatch {
     pub fn is(&self, other: &KeptBatch) -> bool
         ensures { result ≡ is_same_batch (kept_batch self.now) (kept_batch other.now) }
     {
-        match self {
-            KeptBatch::One(request) => match other {
-                KeptBatch::One(second) => request.as_slice() == second.as_slice(),
-                KeptBatch::Many(_) => false,
-            },
-            KeptBatch::Many(text) => match other {
-                KeptBatch::One(_) => false,
-                KeptBatch::Many(second) => text.as_slice() == second.as_slice(),
-            },
-        }
+        self.is_that(&other.lent())
     }
 
     /// Whether this is that batch.
@@ -131,12 +102,46 @@ impl KeptEntry {
     {
         match self {
             KeptEntry::Own(batch) => {
-                let copy = batch.copy(alloc)?;
+                let copy = KeptBatch::copy_of(alloc, &batch.lent())?;
                 Ok(KeptEntry::Own(copy))
             }
             KeptEntry::Value(value) => Ok(KeptEntry::Value(*value)),
         }
     }
+}
+
+/// Three copies of a batch.
+pub fn copies_of(
+    alloc: Global,
+    batch: &Batch<'_>,
+) -> Result<(KeptBatch, KeptBatch, KeptBatch), Memory>
+    ensures { IfOk result (λ copies. (kept_batch copies.0 ≡ batch_of batch.now)
+        × (kept_batch copies.1 ≡ batch_of batch.now)
+        × (kept_batch copies.2 ≡ batch_of batch.now)) }
+{
+    let first = KeptBatch::copy_of(alloc, batch)?;
+    let second = KeptBatch::copy_of(alloc, batch)?;
+    let third = KeptBatch::copy_of(alloc, batch)?;
+    Ok((first, second, third))
+}
+
+/// Makes room for one more in each list.
+pub fn reserve_one(
+    batches: &mut Vec<KeptBatch>,
+    current: &mut Vec<KeptBatch>,
+    items: &mut Vec<KeptEntry>,
+) -> Result<(), Memory>
+    ensures batches { batches.new.items ≡ batches.old.items }
+    ensures current { current.new.items ≡ current.old.items }
+    ensures items { items.new.items ≡ items.old.items }
+    ensures room { OnOk result ((vec_len batches.new < vec_capacity batches.new)
+        × (vec_len current.new < vec_capacity current.new)
+        × (vec_len items.new < vec_capacity items.new)) }
+{
+    batches.reserve(1)?;
+    current.reserve(1)?;
+    items.reserve(1)?;
+    Ok(())
 }
 
 /// A copy of entries.

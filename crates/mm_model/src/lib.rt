@@ -9,11 +9,14 @@ mod laws;
 mod long;
 mod move_laws;
 mod refusal;
+mod running;
 mod verdict;
 
 pub use answer::{Answer, BatchAnswer};
 pub use hashes::{guard, link};
-pub use kept::{KeptBatch, KeptEntry, copy_entries, last_is, normal, some_value};
+pub use kept::{
+    KeptBatch, KeptEntry, copies_of, copy_entries, last_is, normal, reserve_one, some_value,
+};
 pub use laws::{
     anchors_are_told_apart, basic_verdict_is_judged, batches_are_hashed, batches_are_told_apart,
     chains_go_on, ended_histories_accept_nothing, histories_list_their_messages, offers_stand_here,
@@ -26,4 +29,5 @@ pub use move_laws::{
     moves_keep_values_outside, opt_messages_go_on, whole_commits_are_moves,
 };
 pub use refusal::Refusal;
+pub use running::{BatchRun, run_batch};
 pub use verdict::Verdict;

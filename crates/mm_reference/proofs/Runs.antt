@@ -11,11 +11,11 @@ pub spelled_at : (meaning : Meaning) → IsLawful meaning → (requests : List (
 spelled_at meaning lawful requests state seen e f =
     subst (λ (s : List ℕ). IsTrue (meaning.is_spelled s)) (sym (f ∙ e)) (state_after-is_spelled meaning lawful requests)
 
-pub IsStateOfRun-push : (meaning : Meaning) (requests items : List (List ℕ)) (request asked state seen output next said : List ℕ)
+pub IsStateOfRun-push : (meaning : Meaning) (requests items : List (List ℕ)) (request state seen output next said : List ℕ)
     → IsStateOfRun meaning requests state output → seen ≡ state → next ≡ meaning.next seen request → said ≡ meaning.says seen request
-    → asked ≡ request → items ≡ requests ++ asked ∷ [] → IsStateOfRun meaning items next said
-IsStateOfRun-push meaning requests items request asked state seen output next said run s n o a i =
+    → items ≡ requests ++ request ∷ [] → IsStateOfRun meaning items next said
+IsStateOfRun-push meaning requests items request state seen output next said run s n o i =
     record {
-      state_is = rw (n, s, run.state_is, i, a) (sym (state_after-push meaning requests request));
-      output_is = rw (o, s, run.state_is, i, a) (sym (last_output_after-push meaning requests request));
+      state_is = rw (n, s, run.state_is, i) (sym (state_after-push meaning requests request));
+      output_is = rw (o, s, run.state_is, i) (sym (last_output_after-push meaning requests request));
     }

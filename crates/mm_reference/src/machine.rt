@@ -1,10 +1,10 @@
 //! The machine that a protected module stands for: one state, and no snapshots.
 
-ghost use Rattle.std.specs.Prelude.{◌≡◌, [], ◌∷◌, ◌++◌, length, IfOk, OnErr, MatchOption};
+ghost use Rattle.std.specs.Prelude.{◌≡◌, [], ◌∷◌, ◌++◌, length, IfOk, IsTrue, OnOk, OnErr, MatchOption};
 ghost use Rattle.mm_module.specs.Meaning.{IsLine, last_output_after};
 
 use mm_base::{Bytes, Memory};
-use mm_module::Module;
+use mm_module::{Module, Stepped};
 use std::alloc::Global;
 use std::marker::Model;
 
@@ -26,6 +26,36 @@ impl<M: Module + Drop> Model for Machine<M> {
     ghost view = { λ m. record { runner = m.runner; requests = m.requests.items } };
 
     ghost invariant = { λ m. IsStateOfRun (M.meaning m.runner) m.requests.items m.state m.output };
+}
+
+// What the module's step comes to, with a copy of what it says.
+fn step<M: Module>(
+    alloc: Global,
+    runner: &M,
+    state: &[u8],
+    request: &[u8],
+) -> Result<(Stepped, Bytes), Memory>
+    requires spelled { IsTrue ((M.meaning runner.now).is_spelled state.now) }
+    requires line { IsLine request.now }
+    ensures state { IfOk result (λ came. came.0.state
+        ≡ (M.meaning runner.now).next state.now request.now) }
+    ensures output { IfOk result (λ came. came.0.output
+        ≡ (M.meaning runner.now).says state.now request.now) }
+    ensures said { IfOk result (λ came. came.1 ≡ came.0.output) }
+{
+    let stepped = runner.step(alloc, state, request)?;
+    let said = Bytes::copy_of(alloc, stepped.output.as_slice())?;
+    Ok((stepped, said))
+}
+
+// Puts a copy at the end.
+fn push_copy(alloc: Global, list: &mut Vec<Bytes>, bytes: &[u8]) -> Result<(), Memory>
+    ensures ok { OnOk result (list.new.items ≡ list.old.items ++ bytes.now ∷ []) }
+    ensures err { OnErr result (list.new.items ≡ list.old.items) }
+{
+    let copy = Bytes::copy_of(alloc, bytes)?;
+    list.push(copy)?;
+    Ok(())
 }
 
 impl<M: Module + Drop> Machine<M> {
@@ -54,12 +84,8 @@ impl<M: Module + Drop> Machine<M> {
             (λ said. said ≡ last_output_after (M.meaning self.new.runner) self.new.requests) }
         ensures err { OnErr result (self.new.requests ≡ self.old.requests) }
     {
-        let stepped = self
-            .runner
-            .step(self.alloc, self.state.as_slice(), request)?;
-        let asked = Bytes::copy_of(self.alloc, request)?;
-        let said = Bytes::copy_of(self.alloc, stepped.output.as_slice())?;
-        self.requests.push(asked)?;
+        let (stepped, said) = step(self.alloc, &self.runner, self.state.as_slice(), request)?;
+        push_copy(self.alloc, &mut self.requests, request)?;
         self.state = stepped.state;
         self.output = stepped.output;
         Ok(said)

@@ -12,13 +12,13 @@ ghost use Rattle.mm_model.specs.CommitMoves.{with_batch};
 use crate::entries::{all_own, some_segment_has_value};
 use mm_base::Memory;
 use mm_digest::{Digest, Variant};
-use mm_model::{KeptBatch, KeptEntry, Verdict, copy_entries, last_is, normal};
+use mm_model::{KeptBatch, KeptEntry, Verdict, copies_of, copy_entries, last_is, normal, reserve_one};
 use mm_module::Batch;
 use std::alloc::Global;
 use std::marker::Model;
 
 /// A history as lists. Contracts see the variant and the history.
-#[derive(Debug, Drop)]
+#[derive(Drop)]
 pub struct Symbolic {
     alloc: Global,
     variant: Variant,
@@ -109,12 +109,8 @@ impl Symbolic {
             ≡ with_batch Opt self.old.history (batch_of batch.now)) }
         ensures err { OnErr result (self.new.history ≡ self.old.history) }
     {
-        self.batches.reserve(1)?;
-        self.current.reserve(1)?;
-        self.items.reserve(1)?;
-        let kept = KeptBatch::copy_of(self.alloc, batch)?;
-        let current = KeptBatch::copy_of(self.alloc, batch)?;
-        let own = KeptBatch::copy_of(self.alloc, batch)?;
+        reserve_one(&mut self.batches, &mut self.current, &mut self.items)?;
+        let (kept, current, own) = copies_of(self.alloc, batch)?;
         if !self.is_open {
             self.current.clear();
         }

@@ -9,10 +9,10 @@ step-requires-clause-spelled g c =
 
 pub invariant_of-self-2 : goal.invariant_of-self-2
 invariant_of-self-2 g c =
-    IsStateOfRun-push (g.M.Module.meaning c.self.inside.runner) c.self.inside.requests.items c.push.new.self.items
-    c.args.request.now c.in_ok-asked.asked c.self.inside.state c.as_slice.result.now c.self.inside.output
+    IsStateOfRun-push (g.M.Module.meaning c.self.inside.runner) c.self.inside.requests.items c.push_copy.new.list.items
+    c.args.request.now c.self.inside.state c.as_slice.result.now c.self.inside.output
     c.in_ok-stepped.stepped.state c.in_ok-stepped.stepped.output c.self.invariant c.as_slice.ensures.value
-    c.in_ok-stepped.ensures.state c.in_ok-stepped.ensures.output c.in_ok-asked.ensures c.in_ok-push.ensures.items
+    c.in_ok-stepped.ensures.state c.in_ok-stepped.ensures.output c.in_ok-push_copy.ensures.ok
 
 pub returns-clause-output : goal.returns-clause-output
-returns-clause-output g c = (c.in_ok-said.ensures ∙ c.as_slice-2.ensures.value) ∙ (invariant_of-self-2 g c).output_is
+returns-clause-output g c = c.in_ok-stepped.ensures.said ∙ (invariant_of-self-2 g c).output_is

@@ -1,6 +1,6 @@
 -- A batch that runs member by member.
 use Rattle.std.specs.Prelude.{◌≡◌, ℕ, List, ◌++◌, drop, IsTrue}
-use Rattle.mm_call.specs.Below.{Meaning, outputs_from, state_from}
+use Rattle.mm_model.specs.Below.{Meaning, outputs_from, state_from}
 
 -- These are the state and the outputs once the first members were run, from a state: what is left
 -- leads to the end.

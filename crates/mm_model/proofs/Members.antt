@@ -1,8 +1,12 @@
 -- A batch that runs member by member.
-use Rattle.mm_call.proofs.Below.{◌≡◌, ℕ, ◌+◌, ◌<◌, List, [], ◌∷◌, ◌++◌, length, drop, Some, IsTrue, sym, ap, ◌∙◌, suc, add-one, drop-cons}
-use Rattle.mm_call.proofs.Below.{append_assoc, ◌≤◌, slice_get, Meaning, IsLawful, outputs_from, state_from, limit_of, state_from-is_spelled}
-use Rattle.mm_call.proofs.Below.{IsPartialRun}
+use Rattle.mm_model.proofs.Below.{◌≡◌, ℕ, ◌+◌, ◌<◌, List, [], ◌∷◌, ◌++◌, length, drop, sym, ap, ◌∙◌, suc, append_assoc}
+use Rattle.mm_model.proofs.Below.{Meaning, IsLawful}
+use Rattle.std.proofs.Common.{Some, add-one, drop-cons}
 use Rattle.std.proofs.lemmas.Option.{slice_get_within, get_or_from_slice_get}
+use Rattle.std.specs.List.{slice_get}
+use Rattle.mm_module.specs.Meaning.{outputs_from}
+use Rattle.mm_module.specs.MeaningWords.{state_from}
+use Rattle.mm_model.specs.PartialRun.{IsPartialRun}
 
 pub drop_at : (xs : List (List ℕ)) (i : ℕ) (m : List ℕ) → slice_get xs i ≡ Some m → drop i xs ≡ m ∷ drop (i + 1) xs
 drop_at xs i m e =
@@ -22,9 +26,3 @@ ran_on meaning lawful start members i state read next said outputs longer m ran 
           ∙ sym (ap (λ (v : List (List ℕ)). outputs ++ outputs_from meaning state v) d) ∙ ran.outputs_are;
       spelled = lawful.goes_on state m ran.spelled;
     })
-
--- the state after a batch fits into a snapshot
-pub small_state : (meaning : Meaning) → IsLawful meaning → (start : List ℕ) (members : List (List ℕ)) (state : List ℕ) (id : ℕ)
-    → IsTrue (meaning.is_spelled start) → state ≡ state_from meaning start members → id ≡ meaning.id → length state ≤ limit_of id
-small_state meaning lawful start members state id spelled state_is id_is =
-    rw (state_is, id_is) (lawful.fits (state_from meaning start members) (state_from-is_spelled meaning lawful start members spelled))

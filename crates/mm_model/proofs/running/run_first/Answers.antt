@@ -1,6 +1,6 @@
 use Rattle.mm_module.specs.Batches.{batch_of}
 use Rattle.mm_module.specs.BatchLaws.{size_of-pos}
-use Rattle.mm_call.proofs.run.run_first.Goals as goal
+use Rattle.mm_model.proofs.running.run_first.Goals as goal
 
 pub request_at-request-requires-clause-within : goal.request_at-request-requires-clause-within
 request_at-request-requires-clause-within g c = size_of-pos (batch_of c.args.batch)

@@ -1,55 +1,16 @@
 //! A batch that runs in memory.
 
-ghost use Rattle.std.specs.Prelude.{◌≡◌, ◌+◌, ◌<◌, ◌≤◌, false, IfOk, IsTrue, Some, slice_get};
-ghost use Rattle.mm_base.specs.Limits.{last_position};
+ghost use Rattle.std.specs.Prelude.{◌≡◌, ◌<◌, false, IfOk, IsTrue, Some, slice_get};
 ghost use Rattle.mm_module.specs.Meaning.{IsLine, outputs_from};
 ghost use Rattle.mm_module.specs.MeaningWords.{state_from};
-ghost use Rattle.mm_module.specs.Batch.{members_of, size_of, normal_batch};
+ghost use Rattle.mm_module.specs.Batch.{members_of, size_of};
 ghost use Rattle.mm_module.specs.Batches.{batch_of};
-ghost use Rattle.mm_seal.specs.Body.{content_of};
 ghost use Rattle.mm_model.specs.Long.{is_long};
-ghost use Rattle.mm_call.specs.Answers.{answer_at};
-ghost use Rattle.mm_call.specs.PartialRun.{IsPartialRun};
+ghost use Rattle.mm_model.specs.PartialRun.{IsPartialRun};
 
 use mm_base::{Bytes, Memory};
-use mm_model::BatchAnswer;
 use mm_module::{Batch, Module, Outputs, Stepped};
-use mm_seal::{Body, Place, SealingKey};
 use std::alloc::Global;
-
-/// The answer to a batch that runs from an offered state, with the place that it leads to.
-#[inline(always)]
-pub fn answer<M: Module>(
-    alloc: Global,
-    module: &M,
-    key: &mut SealingKey,
-    offered: &Body<'_>,
-    place: Place,
-    batch: Batch<'_>,
-    again: bool,
-) -> Result<BatchAnswer, Memory>
-    requires spelled { IsTrue ((M.meaning «module».now).is_spelled offered.now.state.now) }
-    requires fits { offered.now.position + size_of (batch_of batch) ≤ last_position }
-    requires short { is_long (batch_of batch) ≡ false }
-    ensures { IfOk result (λ answer. answer ≡ answer_at (M.meaning «module».now) key.old
-        (content_of offered.now) place (batch_of batch.entry) again) }
-{
-    let BatchRun { state, outputs } = run_batch(alloc, module, offered.state, batch)?;
-    let position = offered.position + batch.len() as u64;
-    let body = Body {
-        module: module.id(),
-        place,
-        position,
-        state: state.as_slice(),
-    };
-    let snapshot = key.seal(alloc, &body)?;
-    Ok(BatchAnswer {
-        again,
-        position,
-        outputs,
-        snapshot,
-    })
-}
 
 /// What a batch came to: the state after it, and what the module says to each request.
 #[derive(Drop)]
