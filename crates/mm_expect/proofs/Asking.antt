@@ -6,11 +6,12 @@ use Rattle.mm_expect.proofs.Below.{DeviceStep, Reads, ask_steps, Refusal, is_las
 use Rattle.mm_expect.proofs.Below.{CallFinding, finding_at, finding_unless_wanting, is_fresh, End, Done, Fails, StepFate, StepsWalk}
 use Rattle.mm_expect.proofs.Below.{walk_from_step, walk, moves_seen, has_commit, fate_by_plan, Answers, Breaks, CallOutcome, reading_steps}
 use Rattle.mm_expect.proofs.Below.{position_of, call_ending_by, call_outcome, state_seen, position_if_committed, call_outcome_with}
-use Rattle.mm_expect.proofs.Below.{AskResult, Refused, Broken, committed_batches, same_batches, more_batches, Commits, nothing, batch}
+use Rattle.mm_expect.proofs.Below.{AskResult, Answered, Refused, Broken, committed_batches, same_batches, more_batches, Commits, nothing, batch}
 use Rattle.mm_expect.proofs.Below.{finished_walk, commits-none, writing_commits, commits_batch, seen_none, reading_none, course_of, plan_of}
 use Rattle.mm_expect.proofs.Below.{ChronicleView, ChronicleGoes, chronicle_instance, instance_with, ChronicleWalks, repeat_in, AdmitsBatch}
 use Rattle.mm_expect.proofs.Below.{changing_steps, first_changing_step, changes_on, ChronicleChanges, ending_of, new_ending, NewCallGoesOn}
-use Rattle.mm_expect.proofs.Below.{ChronicleCalls}
+use Rattle.mm_expect.proofs.Below.{ChronicleCalls, Content}
+use Rattle.mm_expect.specs.RightOffer.{right_offer}
 use Rattle.mm_module.specs.BatchLaws.{size_of-pos}
 use Rattle.mm_call.specs.WalkLaws as walks
 use Rattle.mm_call.specs.WalkLaws.{foreign_made, history_with_values}
@@ -181,11 +182,28 @@ module _ (a : ChronicleView) (stop : Stop) (meddles : List Meddle) (bytes : List
       let same : chronicle_instance n ≡ at = λ j. instance_with (w.went.variant j) (w.went.«module» j) in
       λ j. finding_at (same j) (list_level (same j)) (stands n w j) b bytes
 
+  -- what an offer says doesn't change by what is read
+  pub told_there : (n : ChronicleView) (told : Result Content Refusal) → ChronicleWalks a n reading None → told ≡ right_offer at bytes
+      → told ≡ right_offer (chronicle_instance n) bytes
+  told_there n told w e = e ∙ (λ j. right_offer (instance_with (sym w.went.variant j) (sym w.went.«module» j)) bytes)
+
   pub ask_refused : (n : ChronicleView) (why : Refusal) → ChronicleWalks a n reading None
       → Err why ≡ repeat_in (finding_at (chronicle_instance n) (list_level (chronicle_instance n)) n.history b bytes)
       → ChronicleCalls a n all (Refused why)
   ask_refused n why w e = calls_by n (Refused why) (Err why) (unlack found ∙ again_err found why (e ∙ ap repeat_in (found_there n w)))
       (subst (λ (s : List DeviceStep). ChronicleWalks a n (walk fates 1 s) None) (sym (ask_reading a.variant a.history.is_open b)) w) refl
+
+  pub ask_again : (n : ChronicleView) → ChronicleWalks a n reading None
+      → Ok true ≡ repeat_in (finding_at (chronicle_instance n) (list_level (chronicle_instance n)) n.history b bytes)
+      → (ended : AskResult) → ended ≡ Answered (answer_on (chronicle_instance n) n.history b true) → ChronicleCalls a n all ended
+  ask_again n w e ended is =
+      let f = again_ok found true (e ∙ ap repeat_in (found_there n w)) in
+      let steps : steps_for (Ok f.0) ≡ reading_steps a.variant =
+      ap (λ (k : Bool). ask_steps a.variant a.history.is_open (if k then false else true) b) f.2
+      ∙ ask_reading a.variant a.history.is_open b in
+      calls_by n ended (Ok f.0) (unlack found ∙ f.1)
+      (subst (λ (s : List DeviceStep). ChronicleWalks a n (walk fates 1 s) None) (sym steps) w) (ap ending_of is
+      ∙ (λ j. Answers (answer_on (instance_with (w.went.variant j) (w.went.«module» j)) n.history b (sym f.2 j))))
 
   -- what is read leaves a segment open or shut
   open_seen : (steps : List DeviceStep) (n : ℕ) (y : History) → (state_after_moves (list_level at) y (moves_seen fates steps n)).is_open

@@ -1,13 +1,18 @@
 -- What is found of an offer.
-use Rattle.mm_expect.proofs.Below.{◌≡◌, ℕ, ◌+◌, ◌≤◌, Bool, true, false, ◌&&◌, List, Result, Ok, Err, refl, arith, nat_eq, bytes_eq}
+use Rattle.mm_expect.proofs.Below.{◌≡◌, ℕ, ◌+◌, ◌≤◌, Bool, true, false, ◌&&◌, List, Result, Ok, Err, Some, None, refl, sym, ap, ◌∙◌, arith}
+use Rattle.mm_expect.proofs.Below.{nat_eq, bytes_eq, if◌then◌else◌, Content, Refusal, right_content}
 use Rattle.mm_expect.proofs.Below.{Decides-eqb, last_position, Batch, size_of, PartsFault, Snapshot, tag_of, parts_of, Instance, History}
 use Rattle.mm_expect.proofs.Below.{total_of, Life, Live, life_by, life_of, is_lost, is_last, verdict_by_tests, verdict_on, list_level}
 use Rattle.mm_expect.proofs.Below.{CallFinding, finding_by_verdict, finding_at, admitted_tells, weighed_tells, found_with_tells}
 use Rattle.mm_expect.proofs.Below.{unless_lost, count_after_batch, AdmitsBatch}
 use Rattle.std.proofs.lemmas.Bool.{and_parts, leb-true}
 use Rattle.mm_seal.specs.declared.snapshot.PartsFault.TheVariants.{Form, Kind}
+use Rattle.std.specs.Result.{result_ok}
+use Rattle.mm_model.specs.declared.refusal.Refusal.TheVariants as refusal
+use Rattle.mm_call.specs.CallFindingWords.{content_if_right}
 use Rattle.mm_call.specs.WeighingLaws.{weighed_only}
 use Rattle.mm_call.specs.Order.{check_of_verdict, check_of_offer}
+use Rattle.mm_expect.specs.RightOffer.{offer_of_parts, right_offer}
 
 pub lost_when : (is_open is_bare is_own is_marred : Bool) → is_lost (life_by is_open is_bare is_own is_marred) ≡ (is_open && is_bare)
 lost_when true true own marred = refl
@@ -51,3 +56,20 @@ pub admits_found : (i : Instance) (y : History) (b : Batch) (bytes : List ℕ) (
     → AdmitsBatch y b f.again
 admits_found i y b bytes f e =
     from_admits i y b (parts_of i.variant i.meaning.id bytes) f (unless_lost (is_lost (life_of i.variant y)) _ f e)
+
+-- what a right offer says
+content_with : (spelled tagged : Bool) (content : Content) → (if spelled && tagged then Some content else None)
+    ≡ result_ok (if spelled then (if tagged then Ok content else Err refusal.Tag) else Err refusal.State)
+content_with true true content = refl
+content_with true false content = refl
+content_with false tagged content = refl
+
+content_of_parts : (i : Instance) (parts : Result Snapshot PartsFault) → content_if_right i parts ≡ result_ok (offer_of_parts i parts)
+content_of_parts i (Ok snapshot) = content_with (i.meaning.is_spelled snapshot.content.state)
+    (bytes_eq snapshot.tag (tag_of i.key snapshot.content)) snapshot.content
+content_of_parts i (Err Form) = refl
+content_of_parts i (Err Kind) = refl
+
+pub right_is : (i : Instance) (bytes : List ℕ) (told : Result Content Refusal) → told ≡ right_offer i bytes
+    → right_content i bytes ≡ result_ok told
+right_is i bytes told e = content_of_parts i (parts_of i.variant i.meaning.id bytes) ∙ ap result_ok (sym e)

@@ -3,8 +3,12 @@ pub use Rattle.mm_base.specs.Limits.{last_position}
 pub use Rattle.mm_digest.specs.Messages.{anchored_message, extended_message, zero_bytes}
 pub use Rattle.mm_digest.specs.declared.variant.Variant.{Variant}
 pub use Rattle.mm_digest.specs.declared.variant.Variant.TheVariants.{Basic, Opt}
-pub use Rattle.mm_seal.specs.Snapshot.{Content, Snapshot}
+pub use Rattle.mm_seal.specs.Body.{content_of}
+pub use Rattle.mm_seal.specs.Parts.{parts_of}
+pub use Rattle.mm_seal.specs.Snapshot.{Content, Snapshot, tag_of}
+pub use Rattle.mm_seal.specs.declared.snapshot.Body.{Body}
 pub use Rattle.mm_seal.specs.declared.snapshot.PartsFault.{PartsFault}
+pub use Rattle.mm_seal.specs.declared.snapshot.PartsFault.TheVariants.{Form, Kind}
 pub use Rattle.mm_platform.specs.declared.fault.StepFault.{StepFault}
 pub use Rattle.mm_platform.specs.declared.plan.Meddle.{Meddle}
 pub use Rattle.mm_platform.specs.declared.plan.Stop.{Stop}

@@ -3,6 +3,7 @@ pub mod NumberedMessages
 pub mod ChronicleView
 pub mod SettledChronicle
 pub mod ChronicleSteps
+pub mod RightOffer
 pub mod Calls
 pub mod Closings
 pub mod GenuineOffers

@@ -7,13 +7,15 @@ use crate::course::{ChronicleMove, ChronicleStep, is_made_at};
 use mm_base::Memory;
 use mm_call::AskResult;
 use mm_digest::Variant;
+use mm_model::Refusal;
 use mm_module::Batch;
 use mm_outcome::CallPlan;
 use mm_platform::StepFault;
-use mm_seal::SealingKey;
+use mm_seal::{Body, SealingKey};
 
 impl Chronicle {
-    ghost use Rattle.std.specs.Prelude.{◌≡◌, [], ◌∷◌, true, false, IfOk};
+    ghost use Rattle.std.specs.Prelude.{◌≡◌, ◌≤◌, ℕ, List, [], ◌∷◌, true, false, IfOk};
+    ghost use Rattle.mm_base.specs.Limits.{last_position};
     ghost use Rattle.mm_digest.specs.declared.variant.Variant.TheVariants.{Opt};
     ghost use Rattle.mm_model.specs.Steps.{Reads};
     ghost use Rattle.mm_module.specs.Batches.{batch_of};
@@ -26,6 +28,7 @@ impl Chronicle {
     ghost use Rattle.mm_outcome.specs.WorldState.{world_key};
     ghost use Rattle.mm_expect.specs.ChronicleView.{chronicle_instance};
     ghost use Rattle.mm_expect.specs.ChronicleSteps.{ChronicleWalks};
+    ghost use Rattle.mm_expect.specs.RightOffer.{told_offer, right_offer};
     ghost use Rattle.mm_expect.specs.Calls.{AdmitsBatch, ChronicleCalls, NewCallGoesOn, ChronicleChanges};
     ghost use Rattle.mm_expect.specs.Closings.{ChronicleGoesByCheckpoint, ChronicleClosesBy};
 
@@ -80,22 +83,24 @@ impl Chronicle {
         }
     }
 
-    /// A call that offers these bytes and asks for the batch.
+    /// A call that offers this and asks for the batch.
     pub(crate) fn call(
         &mut self,
         key: &mut SealingKey,
         course: &CallPlan<'_>,
-        bytes: &[u8],
+        offer: &Result<Body<'_>, Refusal>,
         batch: Batch<'_>,
     ) -> Result<AskResult, Memory>
         requires key { key.old ≡ world_key }
+        requires few { IfOk offer.now (λ body. body.position ≤ last_position) }
         requires short { is_long (batch_of batch) ≡ false }
         ensures key { key.new ≡ key.old }
-        ensures calls { IfOk result
-            (ChronicleCalls self.old self.new
+        ensures calls { (bytes : List ℕ)
+            → told_offer offer.now ≡ right_offer (chronicle_instance self.old) bytes
+            → IfOk result (ChronicleCalls self.old self.new
             (call_outcome (chronicle_instance self.old) (list_level (chronicle_instance self.old))
             self.old.history
-            (course_of course.now.stop course.now.meddles.now) bytes.now (batch_of batch.entry))) }
+            (course_of course.now.stop course.now.meddles.now) bytes (batch_of batch.entry))) }
     {
         if let Some(fault) = self.read(course)? {
             return Ok(AskResult::Broken {
@@ -103,7 +108,7 @@ impl Chronicle {
                 commits: None,
             });
         }
-        match self.find(key, bytes, batch) {
+        match self.find(offer, batch) {
             Err(refusal) => Ok(AskResult::Refused(refusal)),
             Ok(true) => self.answer(key, batch, true),
             Ok(false) => self.call_new(key, course, batch),

@@ -55,6 +55,7 @@ impl Chronicle {
     ghost use Rattle.mm_digest.specs.declared.variant.Variant.TheVariants.{Basic, Opt};
     ghost use Rattle.mm_module.specs.Batch.{size_of};
     ghost use Rattle.mm_module.specs.Batches.{batch_of};
+    ghost use Rattle.mm_modules.specs.Modules.{meaning_of};
     ghost use Rattle.mm_model.specs.Chains.{guard};
     ghost use Rattle.mm_model.specs.Long.{is_long};
     ghost use Rattle.mm_model.specs.History.{Move, Commit, Foreign, Placed, Reset, Close, Power, history_after_commit, register_value_of, total_of};
@@ -90,6 +91,17 @@ impl Chronicle {
             extending: Vec::new(alloc),
             closing: Vec::new(alloc),
         })
+    }
+
+    /// Whether a state is one of the module's. That at which the history stands is, and isn't read
+    /// for it.
+    pub(crate) fn state_is_spelled(&self, state: &[u8]) -> bool
+        ensures { result ≡ (meaning_of self.now.«module»).is_spelled state.now }
+    {
+        if self.state.as_slice() == state {
+            return true;
+        }
+        self.module.state_is_spelled(state)
     }
 
     /// Forgets the messages.

@@ -1,16 +1,17 @@
 //! The fold by lists.
 
 ghost use Rattle.std.specs.Prelude.{◌≡◌, ◌++◌, false, IfOk, OnOk, option_to_list};
+ghost use Rattle.std.specs.Result.{result_ok};
 ghost use Rattle.mm_module.specs.Batches.{batch_of};
 ghost use Rattle.mm_model.specs.Long.{is_long};
 ghost use Rattle.mm_call.specs.CallPremises.{right_messages};
 ghost use Rattle.mm_call.specs.EndedCall.{is_broken};
-ghost use Rattle.mm_call.specs.CallFinding.{right_content};
 ghost use Rattle.mm_schedule.specs.Events.{Ask, Checkpoint, Power, Extend, meddles_of, event_of};
 ghost use Rattle.mm_outcome.specs.Folds.{moves_after_stop};
 ghost use Rattle.mm_outcome.specs.WorldState.{world_key};
 ghost use Rattle.mm_expect.specs.ChronicleEvents.{listed_chronicle, ChronicleGoesByCall, ChronicleGoesByEvent, moves_if};
 ghost use Rattle.mm_expect.specs.ChronicleView.{ChronicleGoes, chronicle_instance};
+ghost use Rattle.mm_expect.specs.RightOffer.{told_offer};
 
 use crate::calls::ClosingResult;
 use crate::chronicle::Chronicle;
@@ -20,12 +21,12 @@ use mm_base::{Bytes, Memory};
 use mm_call::AskResult;
 use mm_digest::Digest;
 use mm_history::list_place;
-use mm_model::{is_long, normal};
+use mm_model::{Refusal, is_long, normal};
 use mm_module::Batch;
 use mm_outcome::{CallPlan, offered, way, world_key};
 use mm_platform::{Meddle, Stop};
 use mm_schedule::{Cause, Event, Header, Meddles, Offer, Reply};
-use mm_seal::SealingKey;
+use mm_seal::{Body, SealingKey};
 use std::alloc::Global;
 use std::marker::Model;
 
@@ -75,19 +76,17 @@ fn listed(meddles: &Meddles) -> &[Meddle]
 // Lists the messages of what is asked, where the offer is right.
 fn list_asked(
     chronicle: &Chronicle,
-    key: &SealingKey,
-    bytes: &[u8],
+    offer: &Result<Body<'_>, Refusal>,
     batch: Batch<'_>,
     messages: &mut Vec<Bytes>,
 ) -> Result<(), Memory>
-    requires { key.now ≡ world_key }
     ensures { OnOk result (messages.new.items
         ≡ messages.old.items ++ right_messages (chronicle_instance chronicle.now)
-        (batch_of batch.entry) (right_content (chronicle_instance chronicle.now) bytes.now)) }
+        (batch_of batch.entry) (result_ok (told_offer offer.now))) }
 {
-    match right_body(chronicle, key, bytes) {
-        None => Ok(()),
-        Some(body) => list_place(
+    match offer {
+        Err(_) => Ok(()),
+        Ok(body) => list_place(
             chronicle.alloc,
             &chronicle.barrier,
             &body.place,
@@ -126,9 +125,10 @@ fn call_and_list(
         (listed_chronicle chronicle.new messages.new.items)
         course.now.stop course.now.meddles.now bytes.now (batch_of batch.entry)) }
 {
-    list_asked(chronicle, key, bytes, batch, messages)?;
+    let offer = right_body(chronicle, key, bytes);
+    list_asked(chronicle, &offer, batch, messages)?;
     chronicle.forget_messages();
-    let ended = chronicle.call(key, course, bytes, batch)?;
+    let ended = chronicle.call(key, course, &offer, batch)?;
     chronicle.hand_messages(messages)?;
     let is_broken = is_broken(&ended);
     restore(chronicle, course.stop, is_broken);

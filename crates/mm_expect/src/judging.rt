@@ -1,16 +1,32 @@
 //! What is found of an offer.
 
 ghost use Rattle.std.specs.Prelude.{◌≡◌};
+ghost use Rattle.mm_call.specs.Order.{check_of_verdict};
 
 use crate::chronicle::Chronicle;
-use mm_call::examine;
+use mm_base::LAST_POSITION;
 use mm_digest::Variant;
 use mm_model::{Refusal, Verdict};
-use mm_module::{Batch, Module};
-use mm_seal::{PartsFault, SealingKey, parts};
+use mm_module::Batch;
+use mm_seal::Body;
+
+// Whether the batch is a repeat, by the verdict on an offer that is right, and by whether there are
+// positions left for it.
+fn admit(verdict: Verdict, fits: bool) -> Result<bool, Refusal>
+    ensures { result ≡ check_of_verdict verdict fits }
+{
+    match verdict {
+        Verdict::Lost => Err(Refusal::Lost),
+        Verdict::Stale => Err(Refusal::Stale),
+        Verdict::Fresh | Verdict::Again if !fits => Err(Refusal::Full),
+        Verdict::Fresh => Ok(false),
+        Verdict::Again => Ok(true),
+    }
+}
 
 impl Chronicle {
-    ghost use Rattle.std.specs.Prelude.{◌≡◌, false, IfOk};
+    ghost use Rattle.std.specs.Prelude.{◌≡◌, ◌≤◌, ℕ, List, false, IfOk};
+    ghost use Rattle.mm_base.specs.Limits.{last_position};
     ghost use Rattle.mm_digest.specs.declared.variant.Variant.TheVariants.{Basic, Opt};
     ghost use Rattle.mm_module.specs.Batches.{batch_of};
     ghost use Rattle.mm_model.specs.History.{items_of_all, total_of};
@@ -19,8 +35,8 @@ impl Chronicle {
     ghost use Rattle.mm_model.specs.Long.{is_long};
     ghost use Rattle.mm_call.specs.CallFinding.{finding_at};
     ghost use Rattle.mm_call.specs.Levels.{list_level};
-    ghost use Rattle.mm_outcome.specs.WorldState.{world_key};
     ghost use Rattle.mm_expect.specs.ChronicleView.{chronicle_instance};
+    ghost use Rattle.mm_expect.specs.RightOffer.{told_offer, right_offer};
     ghost use Rattle.mm_expect.specs.Calls.{repeat_in, AdmitsBatch};
 
     /// How many requests are committed.
@@ -105,30 +121,31 @@ impl Chronicle {
         }
     }
 
-    /// What a call finds: a refusal, or whether the batch is a repeat. Takes no memory.
+    /// What a call finds that offers this: a refusal, or whether the batch is a repeat. Takes no
+    /// memory.
     pub(crate) fn find(
         &self,
-        key: &SealingKey,
-        bytes: &[u8],
+        offer: &Result<Body<'_>, Refusal>,
         batch: Batch<'_>,
     ) -> Result<bool, Refusal>
-        requires key { key.now ≡ world_key }
+        requires few { IfOk offer.now (λ body. body.position ≤ last_position) }
         requires short { is_long (batch_of batch) ≡ false }
-        ensures found { result ≡ repeat_in
+        ensures found { (bytes : List ℕ)
+            → told_offer offer.now ≡ right_offer (chronicle_instance self.now) bytes
+            → result ≡ repeat_in
             (finding_at (chronicle_instance self.now) (list_level (chronicle_instance self.now))
             self.now.history
-            (batch_of batch.entry) bytes.now) }
+            (batch_of batch.entry) bytes) }
         ensures admits { IfOk result (AdmitsBatch self.now.history (batch_of batch.entry)) }
     {
         if self.is_lost() {
             return Err(Refusal::Lost);
         }
-        match parts(bytes, self.variant, self.module.id()) {
-            Err(PartsFault::Form) => Err(Refusal::Form),
-            Err(PartsFault::Kind) => Err(Refusal::Kind),
-            Ok(offered) => {
-                let verdict = self.judge(offered.body().position, batch);
-                examine(&self.module, key, &offered, batch, verdict)
+        match offer {
+            Err(refusal) => Err(*refusal),
+            Ok(body) => {
+                let fits = body.position + batch.len() as u64 <= LAST_POSITION;
+                admit(self.judge(body.position, batch), fits)
             }
         }
     }

@@ -1,24 +1,25 @@
 //! Whether what is offered is genuine.
 
-ghost use Rattle.std.specs.Prelude.{◌≡◌, ◌≤◌, true, length, IfOk, option_map, slice_get};
-ghost use Rattle.mm_seal.specs.Body.{content_of};
+ghost use Rattle.std.specs.Prelude.{◌≡◌, ◌≤◌, true, length, IfOk, slice_get};
+ghost use Rattle.mm_base.specs.Limits.{last_position};
 ghost use Rattle.mm_seal.specs.Parts.{parts_of};
 ghost use Rattle.mm_model.specs.Standing.{IsGenuine};
-ghost use Rattle.mm_call.specs.CallFinding.{right_content};
 ghost use Rattle.mm_schedule.specs.Events.{event_of};
 ghost use Rattle.mm_outcome.specs.WorldState.{world_key};
 ghost use Rattle.mm_history.specs.Naming.{IsDecided};
 ghost use Rattle.mm_expect.specs.GenuineOffers.{EachOfferIsDecided, BasicIssuedAreGenuine, OptIssuedAreGenuine};
 ghost use Rattle.mm_expect.specs.OfferDecision.{position_in, is_found, IsAmong, DecidesBytes, DecidesOffer, DecidesEvent};
+ghost use Rattle.mm_expect.specs.RightOffer.{told_offer, right_offer};
 ghost use Rattle.mm_expect.specs.ChronicleView.{chronicle_instance};
 
 use crate::chronicle::Chronicle;
 use mm_base::{Bytes, Memory};
 use mm_history::is_named;
+use mm_model::Refusal;
 use mm_module::Module;
 use mm_outcome::offered;
 use mm_schedule::{Event, Offer};
-use mm_seal::{Body, SealingKey, parts};
+use mm_seal::{Body, PartsFault, SealingKey, parts};
 
 /// An offer that isn't right is genuine, and a right one exactly where what it says names a
 /// position. An issued snapshot is genuine where each issued one names a position.
@@ -28,24 +29,30 @@ pub fn offers_are_decided()
     ensures opt { OptIssuedAreGenuine }
 {}
 
-/// What a right offer says. None exactly where the offer isn't right.
+/// What a right offer says; else why it is refused: Form, Kind, State and Tag come in this order.
+/// Takes no memory.
 pub(crate) fn right_body<'a>(
     chronicle: &Chronicle,
     key: &SealingKey,
     bytes: &'a [u8],
-) -> Option<Body<'a>>
+) -> Result<Body<'a>, Refusal>
     requires { key.now ≡ world_key }
-    ensures { option_map content_of result
-        ≡ right_content (chronicle_instance chronicle.now) bytes.now }
+    ensures offer { told_offer result ≡ right_offer (chronicle_instance chronicle.now) bytes.now }
+    ensures few { IfOk result (λ body. body.position ≤ last_position) }
 {
-    let Ok(offered) = parts(bytes, chronicle.variant, chronicle.module.id()) else {
-        return None;
-    };
-    let body = offered.body();
-    if chronicle.module.state_is_spelled(body.state) && key.tag_right(&offered) {
-        Some(body)
-    } else {
-        None
+    match parts(bytes, chronicle.variant, chronicle.module.id()) {
+        Err(PartsFault::Form) => Err(Refusal::Form),
+        Err(PartsFault::Kind) => Err(Refusal::Kind),
+        Ok(offered) => {
+            let body = offered.body();
+            if !chronicle.state_is_spelled(body.state) {
+                return Err(Refusal::State);
+            }
+            if !key.tag_right(&offered) {
+                return Err(Refusal::Tag);
+            }
+            Ok(body)
+        }
     }
 }
 
@@ -57,8 +64,8 @@ fn are_genuine(chronicle: &Chronicle, key: &SealingKey, bytes: &[u8]) -> Result<
         (IsGenuine (chronicle_instance chronicle.now) chronicle.now.history bytes.now)) }
 {
     match right_body(chronicle, key, bytes) {
-        None => Ok(true),
-        Some(body) => is_named(
+        Err(_) => Ok(true),
+        Ok(body) => is_named(
             chronicle.alloc,
             &chronicle.lists,
             &chronicle.waymarks,
