@@ -1,5 +1,5 @@
 -- One event more, and what is told at the end.
-use Rattle.mm_check.proofs.Below.{◌≡◌, ◌∙◌, ℕ, ◌+◌, ◌≤◌, true, false, Bool, List, [], ◌∷◌, ◌++◌, length, Option, None, Some, refl, sym, ap}
+use Rattle.mm_check.proofs.Below.{◌≡◌, ◌∙◌, ℕ, ◌+◌, ◌≤◌, true, false, List, [], ◌∷◌, ◌++◌, length, Option, None, Some, refl, sym, ap}
 use Rattle.mm_check.proofs.Below.{subst, arith, append_assoc, append-nil, length-append, fold, Variant, Basic, Opt, start_message}
 use Rattle.mm_check.proofs.Below.{variant_byte, Meaning, meaning_of, Instance, History, first_history, total_of, Header, Event}
 use Rattle.mm_check.proofs.Below.{lines_of_reply, end_line, list_level, RunOutcome, outcome_of_events, event_outcome, first_snapshots}

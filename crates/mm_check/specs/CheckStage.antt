@@ -1,6 +1,6 @@
 -- A recorded run line by line: the header, the events, and at will the line `replies` and the
 -- recorded lines.
-use Rattle.std.specs.Prelude.{ℕ, ◌+◌, ◌-◌, Bool, false, nat_le, not, List, [], ◌∷◌, ◌++◌, codes, length, Option, None, Some, Result, Ok}
+use Rattle.std.specs.Prelude.{ℕ, ◌+◌, ◌-◌, Bool, false, nat_le, not, List, [], ◌∷◌, ◌++◌, codes, Option, None, Some, Result, Ok}
 use Rattle.std.specs.Prelude.{Err, if◌then◌else◌}
 use Rattle.std.specs.List.{slice_get}
 use Rattle.std.specs.Str.{bytes_eq}
