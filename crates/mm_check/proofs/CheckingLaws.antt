@@ -12,7 +12,7 @@ use Rattle.mm_schedule.specs.Grammar.{event_at}
 use Rattle.mm_schedule.specs.Headers.{header_at}
 use Rattle.mm_play.specs.declared.player.LineRefusal.{LineRefusal}
 use Rattle.mm_play.specs.declared.player.LineRefusal.TheVariants.{Bad}
-use Rattle.mm_play.specs.Counting.{no_answer, same_answer}
+use Rattle.mm_play.specs.Counting.{no_answer}
 use Rattle.mm_play.specs.Play.{PlayOutcome, play_outcome, stopped_outcome, refusal_at, outcome_of_answer, outcome_at_end, outcome_of_tail}
 use Rattle.mm_play.specs.Play.{outcome_then, outcome_of_lines}
 use Rattle.std.specs.Io.KnownBytes.{Appends}

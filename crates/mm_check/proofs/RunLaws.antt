@@ -3,7 +3,9 @@ use Rattle.mm_check.proofs.Below.{◌≡◌, ◌∙◌, ℕ, false, List, [], �
 use Rattle.mm_check.proofs.Below.{flat_map-append, map-append, Header, CodeEvent, Event, event_of, lines_of_reply, Reply, digest_level}
 use Rattle.mm_check.proofs.Below.{Outcome, RunOutcome, event_outcome, first_snapshots, first_digests, outcome_by_digests, world_of, goes_on}
 use Rattle.mm_check.proofs.Below.{RunningReplay, is_too_much, replay_stage, replay_state_of, running_outcome, running_replay_after}
-use Rattle.mm_check.proofs.Below.{events_of, lines_of_all, RunsBehind, ◌<◌, length, expected_lines, outcome_of_events, Instance}
+use Rattle.mm_check.proofs.Below.{events_of, lines_of_all, RunsBehind, ◌<◌, ◌≤◌, length, length-map, most_events, expected_lines}
+use Rattle.mm_check.proofs.Below.{outcome_of_events, Instance, Result, Verdicts, AreVerdicts, end_line, run_lines}
+use Rattle.std.specs.Prelude.{IfOk}
 use Rattle.mm_model.specs.Moves.{Digests}
 use Rattle.mm_call.specs.Levels.{Level}
 use Rattle.mm_play.specs.Stage.{play_state}
@@ -55,8 +57,21 @@ is_run_next header {r} events {longer} {told} {more} line event h room said is g
     (subst (λ (es : List Event). RunsBehind header (running_replay_after r line e) es more) (sym all) behind)
 
 -- few lines are expected
-pub expected_short : (header : Header) (running : RunningReplay) (es seen : List Event) (told lines slice : List (List ℕ))
-    → RunsBehind header running es told → seen ≡ es
-    → lines ≡ expected_lines (world_of header) seen → slice ≡ lines → length slice < 4294967295
-expected_short header running es seen told lines slice h same is at =
-    omega (arith, h.few, h.count, ap (λ (l : List Event). length l) same, ap length is, ap length at, expected_few (world_of header) seen)
+pub lines_short : (header : Header) (events : List CodeEvent) {lines slice : List (List ℕ)} → length events ≤ most_events
+    → lines ≡ expected_lines (world_of header) (events_of events) → slice ≡ lines → length slice < 4294967295
+lines_short header events few is at =
+    omega (arith, few, ap length is, ap length at, length-map events event_of, expected_few (world_of header) (events_of events))
+
+-- the lines of the run itself, with its last line
+pub run_verdicts : {E : Type 0} (r : Result Verdicts E) (header : Header) (running : RunningReplay) (events slice : List CodeEvent)
+    (told : List (List ℕ)) {committed issued : ℕ}
+    → RunsBehind header running (events_of events) told → slice ≡ events → committed ≡ running.digests.count
+    → issued ≡ length running.issued
+    → IfOk r (AreVerdicts header (events_of slice) (told ++ end_line committed issued ∷ []))
+    → IfOk r (AreVerdicts header (events_of events) (run_lines (world_of header) (events_of events)))
+run_verdicts r header running events slice told {committed = committed} {issued = issued} h same n k given =
+    let lines : List (List ℕ) = run_lines (world_of header) (events_of events) in
+    let whole : told ++ end_line committed issued ∷ [] ≡ lines =
+    (λ j. h.lines j ++ end_line ((n ∙ ap (λ (d : Digests). d.count) h.digests) j) ((k ∙ ap length h.issued) j) ∷ []) in
+    subst (λ (l : List CodeEvent). IfOk r (AreVerdicts header (events_of l) lines)) same
+    (subst (λ (t : List (List ℕ)). IfOk r (AreVerdicts header (events_of slice) t)) whole given)

@@ -1,8 +1,9 @@
 -- What one line did to a recorded run that is read.
 use Rattle.std.specs.Prelude.{◌≡◌, ℕ, List, [], Option, None, Some, Result, Ok, Err}
-use Rattle.mm_check.specs.Below.{Event, event_of, CodeEvent, LineRefusal, Bad, Much, ReplyFault}
+use Rattle.mm_check.specs.Below.{Event, event_of, CodeEvent, Header, RunningReplay, LineRefusal, Bad, Much, ReplyFault}
 use Rattle.mm_play.specs.declared.player.ReplyFault.TheVariants as fault
-use Rattle.mm_check.specs.CheckStage.{CheckStage, AtHeader, InEvents, InReplies}
+use Rattle.mm_check.specs.CheckStage.{RecordedRun, CheckStage, AtHeader, InEvents, InReplies}
+use Rattle.mm_numbering.specs.Guards.{events_of}
 use Rattle.mm_check.specs.declared.player.Phase.{Phase}
 use Rattle.mm_check.specs.declared.player.Phase.TheVariants.{Events, Replies}
 
@@ -14,6 +15,11 @@ phase_of (Replies comparing) = InReplies comparing
 abbrev pub check_stage : Option Phase → CheckStage
 check_stage None = AtHeader
 check_stage (Some phase) = phase_of phase
+
+-- what was read of a run, by its parts in code
+abbrev pub recorded_run : Header → RunningReplay → List CodeEvent → List (List ℕ) → RecordedRun
+recorded_run header running events told =
+    record { header = header; running = running; events = events_of events; told = told }
 
 -- What a line came to: what stands behind it, or why it is refused; want of memory says nothing.
 -- Nothing is written.

@@ -25,10 +25,25 @@ fn judge<S: Source>(alloc: Global, input: &mut S) -> Result<Verdicts, ReplayFaul
         → (outcome_of_input (check_answer header_at) check_closing AtHeader bytes).outcome ≡ Ok next
         → IsUnrefused result }
 {
-    let mut player = CheckPlayer::new();
+    verdicts_by(alloc, &mut CheckPlayer::new(), input)
+}
+
+// The same, by a player that stands before the header.
+fn verdicts_by<S: Source>(
+    alloc: Global,
+    player: &mut CheckPlayer,
+    input: &mut S,
+) -> Result<Verdicts, ReplayFault>
+    requires { player.old ≡ AtHeader }
+    ensures judges { JudgePromise (S.left input.old) (S.left input.new) result }
+    ensures read { IsBlamed (is_read_fault result) (S.faults input.old) (S.faults input.new) }
+    ensures complete { (bytes : List ℕ) → (next : CheckStage) → S.left input.old ≡ Some bytes
+        → (outcome_of_input (check_answer header_at) check_closing AtHeader bytes).outcome ≡ Ok next
+        → IsUnrefused result }
+{
     let mut nowhere = NullSink {};
-    match play(alloc, &mut player, input, &mut nowhere) {
-        Ok(()) => match player.into_verdicts(alloc) {
+    match play(alloc, player, input, &mut nowhere) {
+        Ok(()) => match player.take_verdicts(alloc) {
             Ok(verdicts) => Ok(verdicts),
             Err(_) => Err(ReplayFault::Memory),
         },

@@ -77,7 +77,8 @@ impl Comparison {
     pub fn new(alloc: Global, reading: ScheduleReader) -> Result<Comparison, Memory>
         ensures { IfOk result (λ it. it ≡ first_compared_run reading) }
     {
-        let (header, events, decided) = reading.decide(alloc)?;
+        let decided = reading.decide(alloc)?;
+        let (header, events) = reading.into_events();
         Ok(Comparison {
             header,
             events,

@@ -1,20 +1,23 @@
 //! The premises and the expected lines of a list of events.
 
-ghost use Rattle.std.specs.Prelude.{◌≡◌, ◌+◌, ◌<◌, ◌≤◌, [], length, take, IfOk, OnOk};
+ghost use Rattle.std.specs.Prelude.{◌≡◌, ◌+◌, ◌-◌, ◌<◌, ◌≤◌, ◌^◌, [], length, take, IfOk, OnOk};
 ghost use Rattle.mm_base.specs.Limits.{most_events};
 ghost use Rattle.mm_numbering.specs.Guards.{events_of};
 ghost use Rattle.mm_numbering.specs.Lists.{pair_of};
 ghost use Rattle.mm_schedule.specs.Events.{event_of};
-ghost use Rattle.mm_check.specs.PremiseDecision.{LooksAtEvent, StandsBehind, DecidesRun, premise_by};
+ghost use Rattle.mm_schedule.specs.Replies.{IsPrintable};
+ghost use Rattle.mm_expect.specs.ExpectedState.{IsAfter};
+ghost use Rattle.mm_check.specs.PremiseDecision.{LooksAtEvent, IsNewDecider, StandsBehind, TakesInEvent, DecidesRun, premise_by};
 
 use crate::lines::{put_last, put_reply};
 use crate::verdicts::Premise;
 use mm_base::{Bytes, Memory};
-use mm_expect::Expectation;
+use mm_expect::{Expectation, ExpectedOutcome};
 use mm_module::Module;
 use mm_numbering::{Numbers, first_secured};
 use mm_schedule::{Event, Header};
 use std::alloc::Global;
+use std::mem;
 
 /// What some first events come to.
 #[derive(Drop)]
@@ -36,20 +39,45 @@ pub(crate) struct Decision {
 }
 
 impl Decider {
-    /// At the first event.
-    fn new(alloc: Global, header: &Header) -> Result<Decider, Memory>
-        ensures { IfOk result (λ it. StandsBehind header.now [] it) }
+    // One over an expectation, before any message is listed.
+    fn new(alloc: Global, expecting: Expectation) -> Decider
+        ensures { IsNewDecider expecting result }
     {
-        let expecting = Expectation::new(alloc, header)?;
-        let mut numbers = Numbers::new(alloc);
-        numbers.list(alloc, &[0, header.variant.byte(), header.module.id()])?;
-        let lines = Vec::new(alloc);
-        Ok(Decider {
+        Decider {
             expecting,
-            numbers,
+            numbers: Numbers::new(alloc),
             forged: None,
-            lines,
-        })
+            lines: Vec::new(alloc),
+        }
+    }
+
+    // Lists the first message, which each run has.
+    fn begin(&mut self, alloc: Global, header: &Header) -> Result<(), Memory>
+        requires after { IsAfter header.now [] self.old.expecting }
+        requires new { IsNewDecider self.old.expecting self.old }
+        ensures { OnOk result (StandsBehind header.now [] self.new) }
+    {
+        let start = [0, header.variant.byte(), header.module.id()];
+        self.numbers.list(alloc, &start)
+    }
+
+    // What all events come to, from the first one on.
+    fn decide(
+        &mut self,
+        alloc: Global,
+        header: &Header,
+        events: &[Event],
+    ) -> Result<Decision, Memory>
+        requires few { length events.now ≤ most_events }
+        requires after { IsAfter header.now [] self.old.expecting }
+        requires new { IsNewDecider self.old.expecting self.old }
+        ensures { IfOk result (DecidesRun header.now (events_of events.now)) }
+    {
+        self.begin(alloc, header)?;
+        'events: for index in 0..events.len() {
+            self.follow_event(alloc, header, events, index)?;
+        }
+        self.end(alloc, header, events)
     }
 
     // Follows the event of this index.
@@ -69,10 +97,8 @@ impl Decider {
         let event = &events[index];
         let forged = self.first_forged(event, index as u32 + 1)?;
         let heard = self.expecting.event(event)?;
-        self.numbers.list_all(alloc, heard.messages.as_slice())?;
-        put_reply(alloc, &mut self.lines, &heard.reply)?;
         self.forged = forged;
-        Ok(())
+        take_in(alloc, &mut self.numbers, &mut self.lines, &heard)
     }
 
     // The first forged event, once that of this number is looked at. Behind the first one none
@@ -114,28 +140,40 @@ impl Decider {
         }
     }
 
-    // What all events come to.
-    fn into_decided(
-        mut self,
-        alloc: Global,
-        header: &Header,
-        events: &[Event],
-    ) -> Result<Decision, Memory>
+    // What all events come to, behind the last one: hands its lines out.
+    fn end(&mut self, alloc: Global, header: &Header, events: &[Event]) -> Result<Decision, Memory>
         requires few { length events.now ≤ most_events }
-        requires stands { StandsBehind header.now (events_of events.now) self }
+        requires stands { StandsBehind header.now (events_of events.now) self.old }
         ensures { IfOk result (DecidesRun header.now (events_of events.now)) }
     {
-        let secured = first_secured(alloc, header.variant, events)?;
-        let premise = self.premise(secured);
         put_last(
             alloc,
             &mut self.lines,
             self.expecting.committed(),
             self.expecting.issued(),
         )?;
-        let Decider { lines, .. } = self;
-        Ok(Decision { premise, lines })
+        let secured = first_secured(alloc, header.variant, events)?;
+        Ok(Decision {
+            premise: self.premise(secured),
+            lines: mem::replace(&mut self.lines, Vec::new(alloc)),
+        })
     }
+}
+
+// Lists the messages of an event, and puts the lines of its reply at the end.
+fn take_in(
+    alloc: Global,
+    numbers: &mut Numbers,
+    lines: &mut Vec<Bytes>,
+    heard: &ExpectedOutcome,
+) -> Result<(), Memory>
+    requires few { numbers.old.digests.count + length heard.now.messages.items < 2 ^ 32 - 1 }
+    requires printable { IsPrintable heard.now.reply }
+    ensures { OnOk result (TakesInEvent heard.now numbers.old numbers.new lines.old.items
+        lines.new.items) }
+{
+    numbers.list_all(alloc, heard.messages.as_slice())?;
+    put_reply(alloc, lines, &heard.reply)
 }
 
 /// What these events come to: what is told of the premises, and the lines that are expected.
@@ -143,9 +181,7 @@ pub(crate) fn decide(alloc: Global, header: &Header, events: &[Event]) -> Result
     requires { length events.now ≤ most_events }
     ensures { IfOk result (DecidesRun header.now (events_of events.now)) }
 {
-    let mut deciding = Decider::new(alloc, header)?;
-    'events: for index in 0..events.len() {
-        deciding.follow_event(alloc, header, events, index)?;
-    }
-    deciding.into_decided(alloc, header, events)
+    let expecting = Expectation::new(alloc, header)?;
+    let mut deciding = Decider::new(alloc, expecting);
+    deciding.decide(alloc, header, events)
 }

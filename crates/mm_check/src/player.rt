@@ -117,13 +117,12 @@ impl CheckPlayer {
         CheckPlayer { phase: None }
     }
 
-    /// The verdicts at the end of the input.
-    pub fn into_verdicts(self, alloc: Global) -> Result<Verdicts, Memory>
-        requires { self ≢ AtHeader }
-        ensures { IfOk result (StageConcludes self) }
+    /// The verdicts at the end of the input. Nothing is left of the run.
+    pub fn take_verdicts(&mut self, alloc: Global) -> Result<Verdicts, Memory>
+        requires { self.old ≢ AtHeader }
+        ensures { IfOk result (StageConcludes self.old) }
     {
-        let CheckPlayer { phase } = self;
-        match phase {
+        match self.phase.take() {
             None => unreachable!(),
             Some(Phase::Events(reading)) => reading.into_verdicts(alloc),
             Some(Phase::Replies(comparing)) => Ok(comparing.verdicts()),

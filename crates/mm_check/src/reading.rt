@@ -1,13 +1,15 @@
 //! The events of a recorded run, as they are read.
 
 ghost use Rattle.std.specs.Prelude.{◌≡◌, ◌≤◌, ◌++◌, ◌∷◌, [], length, IfOk, OnOk};
-ghost use Rattle.mm_base.specs.Limits.{longest_line};
+ghost use Rattle.mm_base.specs.Limits.{longest_line, most_events};
+ghost use Rattle.mm_replay.specs.Progress.{running_replay};
 ghost use Rattle.mm_schedule.specs.Grammar.{event_at};
-ghost use Rattle.mm_schedule.specs.Replies.{IsPrintable, lines_of_reply};
+ghost use Rattle.mm_schedule.specs.declared.header.Header.{Header};
+ghost use Rattle.mm_schedule.specs.Replies.{IsPrintable, end_line, lines_of_reply};
 ghost use Rattle.mm_outcome.specs.WorldState.{world_of};
 ghost use Rattle.mm_check.specs.CheckStage.{RecordedRun, InEvents, first_recorded_run, answer_to_event};
-ghost use Rattle.mm_check.specs.Verdicts.{AreVerdicts, run_lines};
-ghost use Rattle.mm_check.specs.Steps.{LineComesTo, IsEventOf};
+ghost use Rattle.mm_check.specs.Verdicts.{AreVerdicts, RunsBehind, run_lines};
+ghost use Rattle.mm_check.specs.Steps.{LineComesTo, IsEventOf, recorded_run};
 ghost use Rattle.mm_numbering.specs.Guards.{events_of};
 ghost use Rattle.mm_check.specs.PremiseDecision.{DecidesRun};
 
@@ -17,7 +19,7 @@ use crate::lines::{put_last, put_reply};
 use crate::verdicts::Verdicts;
 use mm_base::{Bytes, Memory};
 use mm_play::{LineRefusal, ReplyFault};
-use mm_replay::ReplayProgress;
+use mm_replay::{ReplayProgress, Report};
 use mm_schedule::{Event, EventFault, Header, Reply, read_event};
 use std::alloc::Global;
 use std::marker::Model;
@@ -74,9 +76,37 @@ fn remember(
     ensures events { OnOk result (events.new.items ≡ events.old.items ++ event ∷ []) }
     ensures told { OnOk result (told.new.items ≡ told.old.items ++ lines_of_reply reply.now) }
 {
-    put_reply(alloc, told, reply)?;
     events.push(event)?;
-    Ok(())
+    put_reply(alloc, told, reply)
+}
+
+// Runs the event of a line, and keeps it with the lines of its reply.
+fn follow_line(
+    alloc: Global,
+    progress: &mut ReplayProgress,
+    events: &mut Vec<Event>,
+    told: &mut Vec<Bytes>,
+    line: &[u8],
+) -> Result<(), ReplyFault>
+    requires { length line.now ≤ longest_line }
+    ensures comes { (header : Header) → LineComesTo
+        (λ _. InEvents (recorded_run header (running_replay progress.new) events.new.items
+        told.new.items))
+        (answer_to_event
+        (recorded_run header (running_replay progress.old) events.old.items told.old.items)
+        line.now (event_at line.now)) result }
+    ensures runs { (header : Header)
+        → RunsBehind header (running_replay progress.old) (events_of events.old.items)
+        told.old.items
+        → OnOk result (RunsBehind header (running_replay progress.new)
+        (events_of events.new.items) told.new.items) }
+{
+    let event = event_in(alloc, line)?;
+    let reply = progress.reply_to_event(line, &event)?;
+    match remember(alloc, events, told, event, &reply) {
+        Ok(()) => Ok(()),
+        Err(_) => Err(ReplyFault::Memory),
+    }
 }
 
 impl ScheduleReader {
@@ -98,27 +128,32 @@ impl ScheduleReader {
         requires { length line.now ≤ longest_line }
         ensures { LineComesTo InEvents (answer_to_event self line.now (event_at line.now)) result }
     {
-        let event = event_in(alloc, line)?;
-        let reply = self.progress.reply_to_event(line, &event)?;
-        match remember(alloc, &mut self.events, &mut self.told, event, &reply) {
+        match follow_line(
+            alloc,
+            &mut self.progress,
+            &mut self.events,
+            &mut self.told,
+            line,
+        ) {
             Ok(()) => Ok(self),
-            Err(_) => Err(ReplyFault::Memory),
+            Err(fault) => Err(fault),
         }
     }
 
     /// What the events come to, for recorded lines to be compared.
-    pub fn decide(self, alloc: Global) -> Result<(Header, Vec<Event>, Decision), Memory>
-        ensures { IfOk result (λ it. (it.0 ≡ self.header) × (events_of it.1.items ≡ self.events)
-            × DecidesRun self.header self.events it.2) }
+    pub fn decide(&self, alloc: Global) -> Result<Decision, Memory>
+        ensures { IfOk result (DecidesRun self.now.header self.now.events) }
     {
-        let ScheduleReader {
-            header,
-            progress: _progress,
-            events,
-            told: _told,
-        } = self;
-        let decided = decide(alloc, &header, events.as_slice())?;
-        Ok((header, events, decided))
+        decide(alloc, &self.header, self.events.as_slice())
+    }
+
+    /// The header and the events.
+    pub fn into_events(self) -> (Header, Vec<Event>)
+        ensures header { result.0 ≡ self.header }
+        ensures events { events_of result.1.items ≡ self.events }
+    {
+        let ScheduleReader { header, events, .. } = self;
+        (header, events)
     }
 
     /// The verdicts where no lines are recorded: the lines of the run itself are tested.
@@ -126,12 +161,34 @@ impl ScheduleReader {
         ensures { IfOk result
             (AreVerdicts self.header self.events (run_lines (world_of self.header) self.events)) }
     {
-        let decided = decide(alloc, &self.header, self.events.as_slice())?;
         let report = self.progress.report();
-        put_last(alloc, &mut self.told, report.committed, report.issued)?;
-        Ok(Verdicts {
-            premise: decided.premise,
-            agreement: difference(self.told.as_slice(), decided.lines.as_slice()),
-        })
+        verdicts_on(
+            alloc,
+            &self.header,
+            self.events.as_slice(),
+            &mut self.told,
+            report,
+        )
     }
+}
+
+/// The verdicts on these events, where the lines told are tested, and the last one behind them.
+fn verdicts_on(
+    alloc: Global,
+    header: &Header,
+    events: &[Event],
+    told: &mut Vec<Bytes>,
+    last: Report,
+) -> Result<Verdicts, Memory>
+    requires { length events.now ≤ most_events }
+    ensures { IfOk result
+        (AreVerdicts header.now (events_of events.now)
+        (told.old.items ++ end_line last.committed last.issued ∷ [])) }
+{
+    put_last(alloc, told, last.committed, last.issued)?;
+    let decided = decide(alloc, header, events)?;
+    Ok(Verdicts {
+        premise: decided.premise,
+        agreement: difference(told.as_slice(), decided.lines.as_slice()),
+    })
 }

@@ -37,14 +37,20 @@ fn put_agreement(into: &mut Bytes, agreement: &Agreement) -> Result<(), Memory>
     }
 }
 
+fn put_verdicts(into: &mut Bytes, it: &Verdicts) -> Result<(), Memory>
+    ensures { OnOk result (into.new ≡ into.old ++ verdicts_text it.now) }
+{
+    put_premise(into, &it.premise)?;
+    into.append(b"\n")?;
+    put_agreement(into, &it.agreement)?;
+    into.append(b"\n")
+}
+
 /// The two lines of the verdicts.
 pub(crate) fn verdicts_text(alloc: Global, it: &Verdicts) -> Result<Bytes, Memory>
     ensures { IfOk result (λ text. text ≡ verdicts_text it.now) }
 {
     let mut text = Bytes::new(alloc);
-    put_premise(&mut text, &it.premise)?;
-    text.append(b"\n")?;
-    put_agreement(&mut text, &it.agreement)?;
-    text.append(b"\n")?;
+    put_verdicts(&mut text, it)?;
     Ok(text)
 }

@@ -2,7 +2,7 @@
 
 /// Whether the premises of the headline hold of a run; else the first that doesn't, in this order.
 /// Messages and events are numbered from 1.
-#[derive(Clone, Copy, Debug, PartialEq, Eq)]
+#[derive(Clone, Copy)]
 pub enum Premise {
     /// They hold.
     Held,
@@ -17,7 +17,7 @@ pub enum Premise {
 }
 
 /// Whether the lines that were tested are those that are expected.
-#[derive(Clone, Copy, Debug, PartialEq, Eq)]
+#[derive(Clone, Copy)]
 pub enum Agreement {
     /// They are.
     Agree,
@@ -26,7 +26,7 @@ pub enum Agreement {
 }
 
 /// What a check comes to.
-#[derive(Clone, Copy, Debug, PartialEq, Eq)]
+#[derive(Clone, Copy)]
 pub struct Verdicts {
     pub premise: Premise,
     pub agreement: Agreement,

@@ -23,7 +23,7 @@ pub fn first_then(first: Option<u32>, is_found: bool, number: u32) -> Option<u32
 }
 
 /// Two numbers of messages.
-#[derive(Clone, Copy, Debug, PartialEq, Eq)]
+#[derive(Clone, Copy)]
 pub struct NumberPair {
     pub first: u32,
     pub second: u32,

@@ -86,10 +86,7 @@ fn add_guard(set: &mut BTreeSet<[u8; 32]>, event: &Event) -> Result<(), Memory>
         (HasAll (guards ++ own_values world_barrier (batches_of (event_of event.now))) set.new) }
 {
     match guard_in(event) {
-        Some(guard) => {
-            put(set, guard.bytes)?;
-            Ok(())
-        }
+        Some(guard) => put(set, guard.bytes),
         None => Ok(()),
     }
 }

@@ -1,22 +1,20 @@
-use Rattle.mm_check.proofs.Below.{ℕ, ◌≡◌, ◌+◌, List, length, take, ap, subst, arith, length-map, length-take, fold, world_of, Event}
-use Rattle.mm_check.proofs.Below.{event_of, events_of, messages_with, ListsMessages, numbered_messages, StandsBehind}
+use Rattle.mm_check.proofs.Below.{ℕ, ◌≡◌, ◌+◌, List, length, take, ap, subst, arith, length-map, length-take, world_of, Event}
+use Rattle.mm_check.proofs.Below.{event_of, events_of, numbered_messages, StandsBehind}
+use Rattle.std.proofs.lemmas.Result.{on_ok_weaker}
 use Rattle.mm_check.specs.PremiseDecision.{LooksAtEvent}
 use Rattle.mm_check.specs.declared.deciding.Decider.{Decider}
 use Rattle.mm_check.proofs.DecidingLaws.{heard_after, room_for, stands_next}
 use Rattle.mm_numbering.proofs.GuardLaws.{events_more}
 use Rattle.mm_check.proofs.deciding.Decider.follow_event.Goals as goal
 
-pub list_all-requires : goal.list_all-requires
-list_all-requires c =
+pub take_in-requires-clause-few : goal.take_in-requires-clause-few
+take_in-requires-clause-few c =
     let header = c.args.header.now in
     let before = events_of (take c.args.index c.args.events.now) in
-    let told = c.in_ok-heard.ensures in
-    let after = c.requires.stands.after in
     omega (
       arith,
       room_for header c.args.events.now c.args.index c.index-events-index.result c.args.self.now c.in_ok-heard.heard c.requires.few
-          c.requires.stands (heard_after header before _ _ _ after told.hears),
-      ap length c.as_slice.ensures.value,
+          c.requires.stands (heard_after header before _ _ _ c.requires.stands.after c.in_ok-heard.ensures.hears),
     )
 
 pub returns : goal.returns
@@ -31,15 +29,14 @@ returns c =
     let after = c.requires.stands.after in
     let new : Decider = record {
       expecting = c.event.new.self;
-      numbers = c.list_all.new.self;
+      numbers = c.take_in.new.numbers;
       forged = c.in_ok-forged.forged;
-      lines = c.put_reply.new.lines;
+      lines = c.take_in.new.lines;
     } in
+    on_ok_weaker c.take_in.result (λ takes.
     subst (λ (l : List Event). StandsBehind header l new) (events_more all index event c.requires.within c.index-events-index.is)
     (stands_next header before (event_of event) c.args.self.now new c.in_ok-heard.heard c.requires.stands
     (heard_after header before _ _ _ after told.hears) (told.after header before after) told.grows
-    (subst (λ (l : List (List ℕ)). ListsMessages (fold messages_with (numbered_messages (world_of header) before) l) c.list_all.new.self)
-    c.as_slice.ensures.value
-    (c.in_ok-list_all.ensures (numbered_messages (world_of header) before) c.requires.stands.lists)) c.in_ok-put_reply.ensures
+    (takes.lists (numbered_messages (world_of header) before) c.requires.stands.lists) takes.told
     (subst (λ (n : ℕ). LooksAtEvent c.args.self.now.expecting c.args.self.now.forged (event_of event) n c.in_ok-forged.forged)
-    (ap (λ (n : ℕ). n + 1) count) c.in_ok-forged.ensures))
+    (ap (λ (n : ℕ). n + 1) count) c.in_ok-forged.ensures))) c.take_in.ensures
