@@ -29,16 +29,21 @@ pub struct SlotFiles<F> {
 impl<F: OpenFile + FileExt + Drop> SlotFiles<F> {
     /// The slots, whose links are followed now.
     pub fn new<R: Files>(alloc: Global, files: &R) -> Result<SlotFiles<F>, Memory> {
-        let mut slots = SlotFiles {
+        let mut slots = SlotFiles::unfollowed(alloc);
+        slots.follow_links(alloc, files)?;
+        Ok(slots)
+    }
+
+    // The slots, whose links weren't followed yet.
+    fn unfollowed(alloc: Global) -> SlotFiles<F> {
+        SlotFiles {
             slots: Four::new(
                 Slot::new(alloc, FileName::Slot0),
                 Slot::new(alloc, FileName::Slot1),
                 Slot::new(alloc, FileName::Slot2),
                 Slot::new(alloc, FileName::Slot3),
             ),
-        };
-        slots.follow_links(alloc, files)?;
-        Ok(slots)
+        }
     }
 
     // Follows the slots' links.

@@ -71,11 +71,16 @@ impl<'a, R: Files> FileSource<'a, R> {
         ensures faults { self.new.faults ≡ self.old.faults }
     {
         let mut file = self.open()?;
-        let outcome = named(self.name, file.read(buf));
-        if outcome.is_ok() {
-            self.file = Some(file);
+        match file.read(buf) {
+            Ok(count) => {
+                self.file = Some(file);
+                Ok(count)
+            }
+            Err(error) => Err(Reason::System {
+                name: self.name,
+                error,
+            }),
         }
-        outcome
     }
 }
 
