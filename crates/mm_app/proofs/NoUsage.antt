@@ -1,9 +1,9 @@
 -- No command ends with Usage.
-use Rattle.mm_app.proofs.Below.{◌≡◌, ◌∙◌, ℕ, List, Option, None, Some, Result, Ok, Err, sym, arith, ReplayFault, BulkFault, Summary}
+use Rattle.mm_app.proofs.Below.{◌≡◌, ◌∙◌, ℕ, List, Option, None, Some, Result, Ok, Err, sym, inl, inr, arith, ReplayFault, BulkFault, Summary}
 use Rattle.mm_app.proofs.Below.{InitFault, SessionFault, Checkpointed, CheckpointRefusal, StepFault, Standing, Header, Held, CellFault}
 use Rattle.mm_app.proofs.Below.{CommandLine, Init, Run, Checkpoint, Power, Gen, Bulk, Help, bulk_lines, checkpoint_line, CommandDoes, Outside}
 use Rattle.mm_app.proofs.Below.{power_line, ServesIfFound, FindsInstance, found_instance, session_status, init_line, status_of, TellsLines}
-use Rattle.mm_app.proofs.Below.{status_by, Status, Usage}
+use Rattle.mm_app.proofs.Below.{status_by, DoesOrLacks, Status, Memory, Usage}
 use Rattle.mm_base.specs.declared.fault.WriteFault as write
 use Rattle.mm_app.proofs.Blame.{end_of, platform_end}
 
@@ -45,7 +45,7 @@ run_usage : (fault : Option StepFault) (found : Result Header Status) (before : 
 run_usage fault (Ok header) before old new status f a e = session_usage a.served.answer (sym a.served.ends ∙ e)
 run_usage fault (Err end) before old new status f a e = unserved_usage fault before end f (sym a.stops.ends ∙ e)
 
-pub no_usage : (command : CommandLine) (old new : Outside) (status : Status) → CommandDoes command old new status → status ≡ Usage → ⊥
+no_usage : (command : CommandLine) (old new : Outside) (status : Status) → CommandDoes command old new status → status ≡ Usage → ⊥
 no_usage (Init header) old new status d = told_usage (init_line d.answer) _ _ _ _ status d.tells (start_usage d.answer)
 no_usage Run old new status d =
     run_usage d.looks.fault d.found old.standing (record old { standing = d.middle }) new status d.looks.finds d.goes
@@ -56,3 +56,7 @@ no_usage (Bulk it) old new status d =
 no_usage (Gen it) old new status d = λ e. text_usage d.given.result (sym d.given.ends ∙ e)
 no_usage Help old new status d = λ e. text_usage d.given.result (sym d.given.ends ∙ e)
 no_usage _ old new status d = λ e. played_usage d.played.answer (sym d.played.ends ∙ e)
+
+pub never_usage : (command : CommandLine) (old new : Outside) (status : Status) → DoesOrLacks command old new status → status ≡ Usage → ⊥
+never_usage command old new status (inl d) is = no_usage command old new status d is
+never_usage command old new status (inr e) is = let clash : Memory ≡ Usage = sym e.stops.ends ∙ is in absurd (cc)

@@ -72,6 +72,12 @@ stop_line TooMuch = line_of (codes "stop much")
 stop_line (Short got) = line_of (codes "stop short")
 stop_line Kind = line_of (codes "stop kind")
 
+-- no number stands in its stop line
+abbrev pub HasFixedLine : Status → Type 0
+HasFixedLine (BadLine line) = ⊥
+HasFixedLine (LineLong line) = ⊥
+HasFixedLine _ = Unit {0}
+
 -- it ended with no line refused: all was done, or memory was wanting, or the input or the output
 -- failed
 abbrev pub EndsUnrefused : Status → Type 0

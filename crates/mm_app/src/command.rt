@@ -56,7 +56,6 @@ fn done<P: Platform, T: Store, S: Source, E: Source, K: Sink>(
         (K.faults out.new) in
         DoesOrLacks command.now old new result }
     ensures complete { CanBeAnswered command.now (S.left input.old) → EndsUnrefused result }
-    ensures usage { result ≡ Usage → ⊥ }
     ensures platform { (UsesPlatform command.now → ⊥) → platform.new ≡ platform.old }
     ensures store { (UsesStore command.now → ⊥) → store.new ≡ store.old }
     ensures input { (ReadsInput command.now → ⊥) → input.new ≡ input.old }

@@ -3,7 +3,7 @@
 
 ghost use Rattle.std.specs.Prelude.{ℕ, List, Option};
 ghost use Rattle.mm_app.specs.Outside.{outside};
-ghost use Rattle.mm_app.specs.Run.{LooksAtInstance, RunsInstance, SeesInstance, ServesInstance, ServesAndStops};
+ghost use Rattle.mm_app.specs.Run.{LooksAtInstance, RunsInstance, SeesInstance, ServesAndStops};
 
 use crate::status::Status;
 use crate::telling::stopped;
@@ -80,25 +80,6 @@ fn serve_and_stop<P: Platform, T: Store, S: Source, K: Sink>(
         (outside (P.standing platform.new) (T.kept store.new) (S.left input.new)
         (S.faults input.new) entropy takes (K.received out.new) (K.faults out.new)) result }
 {
-    let status = serve(alloc, header, platform, store, input, out);
-    stopped(status, out)
-}
-
-// Serves the lines, and says how that ended.
-fn serve<P: Platform, T: Store, S: Source, K: Sink>(
-    alloc: Global,
-    header: &Header,
-    platform: &mut P,
-    store: &mut T,
-    input: &mut S,
-    out: &mut K,
-) -> Status
-    ensures { (entropy : Option (List ℕ)) (takes : ℕ) → ServesInstance header.now
-        (outside (P.standing platform.old) (T.kept store.old) (S.left input.old)
-        (S.faults input.old) entropy takes (K.received out.old) (K.faults out.old))
-        (outside (P.standing platform.new) (T.kept store.new) (S.left input.new)
-        (S.faults input.new) entropy takes (K.received out.new) (K.faults out.new)) result }
-{
     let answer = session(
         alloc,
         header.variant,
@@ -108,5 +89,5 @@ fn serve<P: Platform, T: Store, S: Source, K: Sink>(
         input,
         out,
     );
-    Status::of_session(answer)
+    stopped(Status::of_session(answer), out)
 }

@@ -6,7 +6,7 @@ use mm_model::Refusal;
 use mm_words::WordsFault;
 
 /// How the program ends. Lines are numbered from 1.
-#[derive(Clone, Copy, Debug, PartialEq, Eq)]
+#[derive(Clone, Copy)]
 pub enum Status {
     /// All was done and written.
     Done,

@@ -4,7 +4,7 @@ ghost use Rattle.std.specs.Prelude.{◌≡◌, ◌++◌, ◌∷◌, []};
 ghost use Rattle.std.specs.Fmt.{decimal};
 ghost use Rattle.mm_base.specs.Faults.{CountsFaults};
 ghost use Rattle.mm_base.specs.Streams.{SinkSends};
-ghost use Rattle.mm_app.specs.Status.{stop_line};
+ghost use Rattle.mm_app.specs.Status.{HasFixedLine, stop_line};
 ghost use Rattle.mm_app.specs.declared.status.Status.TheVariants as ended;
 
 use crate::status::Status;
@@ -22,21 +22,31 @@ pub fn write_stop<K: Sink>(status: Status, out: &mut K) -> Result<(), WriteFault
 {
     match status {
         Status::Done | Status::WriteFault => Ok(()),
-        Status::Usage => write_all(out, b"stop usage\n"),
-        Status::ReadFault => write_all(out, b"stop read\n"),
-        Status::Memory => write_all(out, b"stop memory\n"),
-        Status::PlatformFault => write_all(out, b"stop platform\n"),
-        Status::StoreFault => write_all(out, b"stop store\n"),
-        Status::Blank => write_all(out, b"stop blank\n"),
-        Status::Already => write_all(out, b"stop already\n"),
-        Status::Cell => write_all(out, b"stop cell\n"),
-        Status::Lost => write_all(out, b"stop lost\n"),
-        Status::Refused(_) => write_all(out, b"stop refused\n"),
         Status::BadLine { line } => write_numbered(b"stop line ", line, out),
         Status::LineLong { line } => write_numbered(b"stop long ", line, out),
-        Status::TooMuch => write_all(out, b"stop much\n"),
-        Status::Short { .. } => write_all(out, b"stop short\n"),
-        Status::Kind => write_all(out, b"stop kind\n"),
+        _ => write_all(out, fixed_line(status)),
+    }
+}
+
+// The stop line of a status, where no number stands in it: empty where it has none.
+fn fixed_line(status: Status) -> &'static [u8]
+    ensures { HasFixedLine status → result.now ≡ stop_line status }
+{
+    match status {
+        Status::Usage => b"stop usage\n",
+        Status::ReadFault => b"stop read\n",
+        Status::Memory => b"stop memory\n",
+        Status::PlatformFault => b"stop platform\n",
+        Status::StoreFault => b"stop store\n",
+        Status::Blank => b"stop blank\n",
+        Status::Already => b"stop already\n",
+        Status::Cell => b"stop cell\n",
+        Status::Lost => b"stop lost\n",
+        Status::Refused(_) => b"stop refused\n",
+        Status::TooMuch => b"stop much\n",
+        Status::Short { .. } => b"stop short\n",
+        Status::Kind => b"stop kind\n",
+        _ => b"",
     }
 }
 

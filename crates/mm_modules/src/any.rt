@@ -16,7 +16,7 @@ use mm_receipted::Receipted;
 use std::alloc::Global;
 
 /// A module, chosen at run time.
-#[derive(Clone, Copy, Debug, PartialEq, Eq)]
+#[derive(Clone, Copy)]
 pub enum AnyModule {
     /// A value of 64 bits: `counter`, id 1.
     Counter,

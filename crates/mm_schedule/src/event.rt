@@ -7,7 +7,7 @@ use mm_digest::{Digest, zero};
 use mm_platform::{Meddle, Stop};
 
 /// The snapshot that a call offers.
-#[derive(Debug, Drop)]
+#[derive(Drop)]
 pub enum Offer {
     /// The issued snapshot with this number.
     Number(u32),
@@ -21,7 +21,7 @@ pub enum Offer {
 }
 
 /// Up to eight extensions of the register by others during one call: the first `count` items.
-#[derive(Clone, Copy, Debug)]
+#[derive(Clone, Copy)]
 pub struct Meddles {
     pub count: u8,
     pub items: [Meddle; 8],
@@ -57,7 +57,7 @@ impl Meddles {
 }
 
 /// One event of a schedule.
-#[derive(Debug, Drop)]
+#[derive(Drop)]
 pub enum Event {
     /// One request is asked of the offered snapshot.
     Ask {

@@ -4,7 +4,7 @@ use mm_base::Memory;
 use thiserror::Error;
 
 /// Why a line gave no event.
-#[derive(Clone, Copy, Debug, PartialEq, Eq, Error)]
+#[derive(Clone, Copy, Debug, Error)]
 pub enum EventFault {
     /// Want of memory.
     #[error("out of memory")]

@@ -11,7 +11,7 @@ use mm_listing::Listed;
 use mm_modules::{AnyModule, by_name};
 
 /// What a schedule runs.
-#[derive(Clone, Copy, Debug, PartialEq, Eq)]
+#[derive(Clone, Copy)]
 pub struct Header {
     pub variant: Variant,
     pub module: AnyModule,

@@ -6,7 +6,7 @@ ghost use Rattle.mm_schedule.specs.Replies.{cause_text, way_text};
 use mm_module::Outputs;
 
 /// How a call was disturbed, by a cut, a drop or a fault: the word that its reply begins with.
-#[derive(Clone, Copy, Debug, PartialEq, Eq)]
+#[derive(Clone, Copy)]
 pub enum Way {
     /// Power was lost and came back.
     Cut,
@@ -17,7 +17,7 @@ pub enum Way {
 }
 
 /// Why a call was refused.
-#[derive(Clone, Copy, Debug, PartialEq, Eq)]
+#[derive(Clone, Copy)]
 pub enum Cause {
     /// The text of the batch has more than 4,096 bytes, or there are more than 64 requests.
     Long,
@@ -46,7 +46,7 @@ pub enum Cause {
 }
 
 /// The answer to an event.
-#[derive(Debug, Drop)]
+#[derive(Drop)]
 pub enum Reply {
     /// A batch was committed, or repeated: its outputs, and the position before it.
     Told {

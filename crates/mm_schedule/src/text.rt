@@ -154,11 +154,11 @@ pub fn stop_in(line: &[u8]) -> Option<(Stop, &[u8])>
     ensures { option_map (λ (x : _). (x.0, x.1.now)) result ≡ stop_at line.now }
 {
     if let Some(line) = after(b"cut ", line) {
-        let (step, line) = stop_step_in(line)?;
+        let (step, line) = first_step_in(line)?;
         return Some((Stop::Cut(step), line));
     }
     if let Some(line) = after(b"drop ", line) {
-        let (step, line) = stop_step_in(line)?;
+        let (step, line) = first_step_in(line)?;
         return Some((Stop::Drop(step), line));
     }
     if let Some(line) = after(b"fail ", line) {
@@ -167,9 +167,9 @@ pub fn stop_in(line: &[u8]) -> Option<(Stop, &[u8])>
     Some((Stop::Quiet, line))
 }
 
-/// A step and its space.
+/// The step that a line begins with, and what follows the space behind it.
 #[tactic(auto, unfolding(crate::specs::Grammar::stop_step_at))]
-fn stop_step_in(line: &[u8]) -> Option<(u8, &[u8])>
+fn first_step_in(line: &[u8]) -> Option<(u8, &[u8])>
     ensures { option_map (λ (x : _). (x.0, x.1.now)) result ≡ stop_step_at line.now }
 {
     let (word, line) = word_in(line)?;
@@ -182,7 +182,7 @@ fn stop_step_in(line: &[u8]) -> Option<(u8, &[u8])>
 fn failing_in(line: &[u8]) -> Option<(Stop, &[u8])>
     ensures { option_map (λ (x : _). (x.0, x.1.now)) result ≡ fail_stop_at line.now }
 {
-    let (step, line) = stop_step_in(line)?;
+    let (step, line) = first_step_in(line)?;
     let (word, line) = word_in(line)?;
     if is_text(word, b"done") {
         return Some((Stop::Fail { step, done: true }, line));
@@ -230,12 +230,11 @@ fn more_meddles<'a>(meddles: &mut Meddles, least: u8, line: &'a [u8]) -> Option<
 }
 
 /// A meddle behind its first word: a step that is no lower than the one before, and a value.
-#[tactic(auto, unfolding(crate::specs::Grammar::meddle_at))]
+#[tactic(auto, unfolding(crate::specs::Grammar::meddle_at, crate::specs::Grammar::stop_step_at))]
 fn meddle_in(line: &[u8], least: u8) -> Option<(Meddle, &[u8])>
     ensures { option_map (λ (x : _). (x.0, x.1.now)) result ≡ meddle_at least line.now }
 {
-    let (word, line) = word_in(line)?;
-    let step = step_in(word)?;
+    let (step, line) = first_step_in(line)?;
     if step < least {
         return None;
     }
@@ -256,8 +255,7 @@ pub fn owned(alloc: Global, meddles: &Meddles, event: EventText<'_>) -> Result<E
             from,
             request,
         } => {
-            let offer = owned_offer(alloc, from)?;
-            let request = Bytes::copy_of(alloc, request)?;
+            let (offer, request) = owned_parts(alloc, from, request)?;
             Ok(Event::Ask {
                 meddles: *meddles,
                 stop,
@@ -270,8 +268,7 @@ pub fn owned(alloc: Global, meddles: &Meddles, event: EventText<'_>) -> Result<E
             from,
             members,
         } => {
-            let offer = owned_offer(alloc, from)?;
-            let text = Bytes::copy_of(alloc, members)?;
+            let (offer, text) = owned_parts(alloc, from, members)?;
             Ok(Event::Batch {
                 meddles: *meddles,
                 stop,
@@ -286,6 +283,16 @@ pub fn owned(alloc: Global, meddles: &Meddles, event: EventText<'_>) -> Result<E
         EventText::Power => Ok(Event::Power),
         EventText::Extend { value } => Ok(Event::Extend { value }),
     }
+}
+
+/// An offer and a text with bytes of their own.
+fn owned_parts(alloc: Global, offer: OfferText<'_>, text: &[u8]) -> Result<(Offer, Bytes), Memory>
+    ensures offer { IfOk result (λ own. own.0 ≡ texts.offer_of offer.entry) }
+    ensures text { IfOk result (λ own. own.1 ≡ text.now) }
+{
+    let offer = owned_offer(alloc, offer)?;
+    let text = Bytes::copy_of(alloc, text)?;
+    Ok((offer, text))
 }
 
 /// The offer with bytes of its own.

@@ -72,16 +72,10 @@ pub fn value_in(word: &[u8]) -> Option<Digest>
     Some(Digest { bytes })
 }
 
-fn is_digit(byte: u8) -> bool
-    ensures { result ≡ is_hex_digit byte }
-{
-    byte.is_ascii_hexdigit()
-}
-
 fn are_digits(word: &[u8]) -> bool
     ensures { result ≡ list_all is_hex_digit word.now }
 {
-    word.iter().all(|byte| is_digit(*byte))
+    word.iter().all(|byte| byte.is_ascii_hexdigit())
 }
 
 /// Whether the word stands for bytes: `-` for none, or two hexadecimal digits for each.

@@ -17,7 +17,7 @@ pub enum CallBreak {
 }
 
 /// What happens in one slot.
-#[derive(Debug, Drop)]
+#[derive(Drop)]
 pub enum SlotAction {
     /// A call begins that asks a request of the offered snapshot.
     Begin { offer: Offer, request: Bytes },
@@ -32,7 +32,7 @@ pub enum SlotAction {
 }
 
 /// One event of a platform with slots.
-#[derive(Debug, Drop)]
+#[derive(Drop)]
 pub enum SlotEvent {
     /// Power is lost and returns, for all slots.
     Power,

@@ -12,7 +12,7 @@ pub enum SideChoice {
 }
 
 /// A command that moves the module.
-#[derive(Debug, Drop)]
+#[derive(Drop)]
 pub enum Command {
     /// The module is invited to the side, under a nonce.
     Invite { nonce: Nonce },
@@ -24,7 +24,7 @@ pub enum Command {
 }
 
 /// What happens on a side.
-#[derive(Debug, Drop)]
+#[derive(Drop)]
 pub enum SideAct {
     /// An event of a schedule.
     Plain(Event),
@@ -38,7 +38,7 @@ pub enum SideAct {
 }
 
 /// One event of two sides.
-#[derive(Debug, Drop)]
+#[derive(Drop)]
 pub struct SideEvent {
     pub which: SideChoice,
     pub act: SideAct,

@@ -12,13 +12,13 @@ pub fn command_line<'a>(alloc: Global) -> Result<Command<'a>, AllocError>
     ensures { IfOk result (λ line. app_of line ≡ the_app) }
 {
     let line = host_forms(alloc, top(alloc));
-    let line = with_form(line, bare(alloc, "replay"));
-    let line = with_form(line, bare(alloc, "check"));
+    let line = with_bare_form(alloc, line, "replay");
+    let line = with_bare_form(alloc, line, "check");
     let line = with_form(line, generating(alloc, "gen"));
     let line = with_form(line, generating(alloc, "bulk"));
-    let line = with_form(line, bare(alloc, "slots"));
+    let line = with_bare_form(alloc, line, "slots");
     let line = with_form(line, with_key(alloc, "receipts"));
-    with_form(line, bare(alloc, "transfer"))
+    with_bare_form(alloc, line, "transfer")
 }
 
 /// The forms that run the module on the platform.
@@ -26,9 +26,9 @@ fn host_forms<'a>(alloc: Global, line: Command<'a>) -> Result<Command<'a>, Alloc
     ensures { IfOk result (λ whole. app_of whole ≡ with_host_forms (app_of line.entry)) }
 {
     let line = with_form(Ok(line), with_header(alloc, "init"));
-    let line = with_form(line, bare(alloc, "run"));
-    let line = with_form(line, bare(alloc, "checkpoint"));
-    with_form(line, bare(alloc, "power"))
+    let line = with_bare_form(alloc, line, "run");
+    let line = with_bare_form(alloc, line, "checkpoint");
+    with_bare_form(alloc, line, "power")
 }
 
 /// A command with one more form, if memory was enough for both.
@@ -41,6 +41,19 @@ fn with_form<'a>(
         → IfOk result (λ command. app_of command ≡ with_subcommand whole part.top) }
 {
     line?.subcommand(form?)
+}
+
+/// A command with one more form that has no words of its own, if memory was enough for both.
+fn with_bare_form<'a>(
+    alloc: Global,
+    line: Result<Command<'a>, AllocError>,
+    name: &'a str,
+) -> Result<Command<'a>, AllocError>
+    ensures { (whole : App) → IfOk line.entry (λ command. app_of command ≡ whole)
+        → IfOk result (λ command. app_of command
+        ≡ with_subcommand whole (new_app name.entry.now).top) }
+{
+    line?.subcommand(Command::new(alloc, name))
 }
 
 /// The command that the subcommands are added to. It answers no call for help.

@@ -13,7 +13,7 @@ use mm_module::value_in;
 use mm_schedule::{Header, variant_word};
 
 /// A schedule that is made from a number.
-#[derive(Clone, Copy, Debug, PartialEq, Eq)]
+#[derive(Clone, Copy)]
 pub struct GeneratedSchedule {
     pub number: u64,
     /// The number of event lines, at most 20,000.
@@ -22,7 +22,7 @@ pub struct GeneratedSchedule {
 }
 
 /// A command: what one form of words asks for.
-#[derive(Clone, Copy, Debug, PartialEq, Eq)]
+#[derive(Clone, Copy)]
 pub enum CommandLine {
     /// `init VARIANT MODULE`
     Init(Header),

@@ -4,7 +4,7 @@ use mm_base::Memory;
 use thiserror::Error;
 
 /// Why words gave no command.
-#[derive(Clone, Copy, Debug, PartialEq, Eq, Error)]
+#[derive(Clone, Copy, Debug, Error)]
 pub enum WordsFault {
     /// Want of memory.
     #[error("out of memory")]

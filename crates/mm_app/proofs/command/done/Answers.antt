@@ -1,6 +1,5 @@
-use Rattle.mm_app.proofs.Below.{◌≡◌, inl, refl, subst, sym, CommandLine, Init, Run, Checkpoint, Power, Replay, Check, Bulk, Slots, Receipts}
+use Rattle.mm_app.proofs.Below.{◌≡◌, inl, refl, subst, sym, CommandLine, Checkpoint, Power, Replay, Check, Bulk, Slots, Receipts}
 use Rattle.mm_app.proofs.Below.{Transfer, CommandDoes, DoesOrLacks, Outside, outside, Status}
-use Rattle.mm_app.proofs.NoUsage.{no_usage}
 use Rattle.mm_app.proofs.command.done.Given.{Over}
 use Rattle.mm_app.proofs.command.done.Goals.{Start}
 use Rattle.mm_app.proofs.command.done.Goals as goal
@@ -22,70 +21,35 @@ returns-in-Replay-clause-does g c =
     let old = told g (goal.at.returns-in-Replay-clause-does g c).Start in
     done_as _ Replay _ _ _ c.in-Replay.is (c.replay_and_stop.ensures.replays old)
 
-pub returns-in-Replay-clause-usage : goal.returns-in-Replay-clause-usage
-returns-in-Replay-clause-usage g c =
-    let old = told g (goal.at.returns-in-Replay-clause-usage g c).Start in
-    no_usage Replay _ _ _ (c.replay_and_stop.ensures.replays old)
-
 pub returns-in-Check-clause-does : goal.returns-in-Check-clause-does
 returns-in-Check-clause-does g c =
     let old = told g (goal.at.returns-in-Check-clause-does g c).Start in
     done_as _ Check _ _ _ c.in-Check.is (c.check_run.ensures.checks old)
-
-pub returns-in-Check-clause-usage : goal.returns-in-Check-clause-usage
-returns-in-Check-clause-usage g c =
-    let old = told g (goal.at.returns-in-Check-clause-usage g c).Start in
-    no_usage Check _ _ _ (c.check_run.ensures.checks old)
 
 pub returns-in-Slots-clause-does : goal.returns-in-Slots-clause-does
 returns-in-Slots-clause-does g c =
     let old = told g (goal.at.returns-in-Slots-clause-does g c).Start in
     done_as _ Slots _ _ _ c.in-Slots.is (c.play_slots.ensures.plays old)
 
-pub returns-in-Slots-clause-usage : goal.returns-in-Slots-clause-usage
-returns-in-Slots-clause-usage g c =
-    let old = told g (goal.at.returns-in-Slots-clause-usage g c).Start in
-    no_usage Slots _ _ _ (c.play_slots.ensures.plays old)
-
 pub returns-in-Receipts-clause-does : goal.returns-in-Receipts-clause-does
 returns-in-Receipts-clause-does g c =
     let old = told g (goal.at.returns-in-Receipts-clause-does g c).Start in
     done_as _ (Receipts c.in-Receipts.key) _ _ _ c.in-Receipts.is (c.check_receipts.ensures.checks old)
-
-pub returns-in-Receipts-clause-usage : goal.returns-in-Receipts-clause-usage
-returns-in-Receipts-clause-usage g c =
-    let old = told g (goal.at.returns-in-Receipts-clause-usage g c).Start in
-    no_usage (Receipts c.in-Receipts.key) _ _ _ (c.check_receipts.ensures.checks old)
 
 pub returns-in-Transfer-clause-does : goal.returns-in-Transfer-clause-does
 returns-in-Transfer-clause-does g c =
     let old = told g (goal.at.returns-in-Transfer-clause-does g c).Start in
     done_as _ Transfer _ _ _ c.in-Transfer.is (c.play_transfer.ensures.plays old)
 
-pub returns-in-Transfer-clause-usage : goal.returns-in-Transfer-clause-usage
-returns-in-Transfer-clause-usage g c =
-    let old = told g (goal.at.returns-in-Transfer-clause-usage g c).Start in
-    no_usage Transfer _ _ _ (c.play_transfer.ensures.plays old)
-
 pub returns-in-Checkpoint-clause-does : goal.returns-in-Checkpoint-clause-does
 returns-in-Checkpoint-clause-does g c =
     let old = told g (goal.at.returns-in-Checkpoint-clause-does g c).Start in
     done_as _ Checkpoint _ _ _ c.in-Checkpoint.is (c.close_segment.ensures old)
 
-pub returns-in-Checkpoint-clause-usage : goal.returns-in-Checkpoint-clause-usage
-returns-in-Checkpoint-clause-usage g c =
-    let old = told g (goal.at.returns-in-Checkpoint-clause-usage g c).Start in
-    no_usage Checkpoint _ _ _ (c.close_segment.ensures old)
-
 pub returns-in-Power-clause-does : goal.returns-in-Power-clause-does
 returns-in-Power-clause-does g c =
     let old = told g (goal.at.returns-in-Power-clause-does g c).Start in
     done_as _ Power _ _ _ c.in-Power.is (c.lose_power.ensures old)
-
-pub returns-in-Power-clause-usage : goal.returns-in-Power-clause-usage
-returns-in-Power-clause-usage g c =
-    let old = told g (goal.at.returns-in-Power-clause-usage g c).Start in
-    no_usage Power _ _ _ (c.lose_power.ensures old)
 
 pub returns-in-Bulk-clause-does : goal.returns-in-Bulk-clause-does
 returns-in-Bulk-clause-does g c =
@@ -94,21 +58,3 @@ returns-in-Bulk-clause-does g c =
       record { standing = refl; kept = refl; left = refl; reads = refl; entropy = refl; takes = refl },
       c.run_in_bulk.ensures old,
     )
-
-pub returns-in-Bulk-clause-usage : goal.returns-in-Bulk-clause-usage
-returns-in-Bulk-clause-usage g c =
-    let old = told g (goal.at.returns-in-Bulk-clause-usage g c).Start in
-    no_usage (Bulk c.in-Bulk.it) old _ _ (
-      record { standing = refl; kept = refl; left = refl; reads = refl; entropy = refl; takes = refl },
-      c.run_in_bulk.ensures old,
-    )
-
-pub returns-in-Init-clause-usage : goal.returns-in-Init-clause-usage
-returns-in-Init-clause-usage g c =
-    let old = told g (goal.at.returns-in-Init-clause-usage g c).Start in
-    no_usage (Init c.in-Init.header) _ _ _ (c.start_instance.ensures old.left old.reads)
-
-pub returns-in-Run-clause-usage : goal.returns-in-Run-clause-usage
-returns-in-Run-clause-usage g c =
-    let old = told g (goal.at.returns-in-Run-clause-usage g c).Start in
-    no_usage Run _ _ _ (c.run_instance.ensures old.entropy old.takes)

@@ -10,6 +10,7 @@ use Rattle.mm_app.proofs.OutputBlame.{output_blamed}
 use Rattle.mm_app.proofs.Completing.{may_be_done}
 use Rattle.mm_app.proofs.Holding.{Holding, spelled, spelled_where, unheld, unspelled, unspelled_where}
 use Rattle.mm_app.proofs.HoldingAll.{holding, much}
+use Rattle.mm_app.proofs.NoUsage.{never_usage}
 use Rattle.mm_app.specs.StatusFacts.{CantRead, FindsBasic, MayBeLost, NeedsInstance, RunsShort, StartsOne}
 use Rattle.mm_app.specs.declared.status.Status.TheVariants.{Already, Blank, Cell, Kind, Lost, Refused, Short}
 use Rattle.mm_seal.specs.Cell.{blank_cell}
@@ -68,6 +69,11 @@ pub returns-in-Ok-clause-one_transfer : goal.returns-in-Ok-clause-one_transfer
 returns-in-Ok-clause-one_transfer g c spells =
     let it = (goal.at.returns-in-Ok-clause-one_transfer g c).After-done in
     moved_by (told_before g it) (told_after g it) c.done.result (did g it Transfer spells)
+
+pub returns-in-Ok-clause-usage : goal.returns-in-Ok-clause-usage
+returns-in-Ok-clause-usage g c is command spells =
+    let it = (goal.at.returns-in-Ok-clause-usage g c).After-done in
+    never_usage c.in-Ok.command (told_before g it) (told_after g it) c.done.result c.done.ensures.does is
 
 pub returns-in-Ok-clause-device : goal.returns-in-Ok-clause-device
 returns-in-Ok-clause-device g c = (blames g (goal.at.returns-in-Ok-clause-device g c).After-done).platform
