@@ -1,12 +1,12 @@
 -- Where lines end in a list of bytes, and the part of a buffer that is held.
 use Rattle.mm_base.proofs.Below.{◌≡◌, ◌≢◌, ◌+◌, ◌-◌, ◌<◌, ◌≤◌, ℕ, List, [], ◌∷◌, ◌++◌, length, take, drop, refl, sym, ap, ◌∙◌, arith}
 use Rattle.mm_base.proofs.Below.{append_assoc, length-append, length-drop, append-nil, drop-drop, drop-take, take-take, length-take, Option}
-use Rattle.mm_base.proofs.Below.{Result, Ok, Err, slice_range, Consumes, IsAtEnd, Keeps, HasBreakAt, SourceRefills, TakesHeldBytes}
+use Rattle.mm_base.proofs.Below.{Ok, Err, slice_range, Consumes, IsAtEnd, Keeps, HasBreakAt, SourceRefills}
 use Rattle.std.proofs.Math.Seq.{take-add, take-append-add, drop-append-add}
 use Rattle.std.proofs.lemmas.List.Elements.{All-append}
 use Rattle.mm_base.specs.declared.fault.Failed.{Failed}
 use Rattle.mm_base.specs.Input.{IsUnbroken}
-use Rattle.mm_base.proofs.StreamLemmas.{Consumes-none, Consumes-both, Consumes-kept}
+use Rattle.mm_base.proofs.StreamLemmas.{Consumes-none, Consumes-kept}
 
 pub range-joined : (xs : List ℕ) (s m e : ℕ) → s ≤ m → m ≤ e → slice_range xs s e ≡ slice_range xs s m ++ slice_range xs m e
 range-joined xs s m e low high =

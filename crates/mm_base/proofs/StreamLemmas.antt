@@ -1,8 +1,7 @@
 -- Known bytes that grow or are consumed by two pieces, one after the other.
 use Rattle.mm_base.proofs.Below.{ℕ, ◌≡◌, ◌+◌, ◌<◌, List, [], ◌++◌, take, drop, length, refl, sym, ap, ◌∙◌, arith, length-append}
-use Rattle.mm_base.proofs.Below.{append_assoc, append-nil, take-append-drop, Option, None, Some, Err, Appends, Consumes, Keeps}
-use Rattle.mm_base.proofs.Below.{FrontGoesOut, SinkSends, IsCutShort}
-use Rattle.mm_base.specs.declared.fault.WriteFault.{WriteFault}
+use Rattle.mm_base.proofs.Below.{append_assoc, take-append-drop, Option, None, Some, Appends, Consumes, Keeps}
+use Rattle.mm_base.proofs.Below.{FrontGoesOut, IsCutShort}
 
 pub Appends-both : (old mid new : Option (List ℕ)) (xs ys : List ℕ)
     → Appends old mid xs → Appends mid new ys → Appends old new (xs ++ ys)

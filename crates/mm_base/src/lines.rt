@@ -22,7 +22,7 @@ use thiserror::Error;
 const ROOM: usize = 32768;
 
 /// What `next` read.
-#[derive(Clone, Copy, Debug, PartialEq, Eq)]
+#[derive(Clone, Copy)]
 pub enum Read<'a> {
     /// The bytes up to the next line feed, without it.
     Line(&'a [u8]),

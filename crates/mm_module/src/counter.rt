@@ -19,14 +19,14 @@ use std::alloc::Global;
 pub struct Counter;
 
 /// A request to a counter.
-#[derive(Clone, Copy, Debug, PartialEq, Eq)]
+#[derive(Clone, Copy)]
 enum Request {
     Read,
     Add(u64),
 }
 
 /// What a counter says.
-#[derive(Clone, Copy, Debug, PartialEq, Eq)]
+#[derive(Clone, Copy)]
 enum Output {
     Value(u64),
     Full,

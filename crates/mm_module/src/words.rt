@@ -7,7 +7,7 @@ ghost use Rattle.mm_module.specs.WordsWords.{is_space};
 
 /// The words of a request, which single spaces part. Two spaces in a row have an empty word between
 /// them.
-#[derive(Clone, Copy, Debug)]
+#[derive(Clone, Copy)]
 pub enum Words<'a> {
     /// No space.
     One(&'a [u8]),

@@ -87,13 +87,15 @@ pub cell_at-only : (bytes : List ℕ) (cell : Cell) (v : Variant) → IsCell cel
     → variant_byte v ≡ get_or bytes 4 0 → cell_at v bytes ≡ cell
 cell_at-only bytes cell v is e size t =
     let byte : (i : ℕ) → i < 8 → get_or bytes i 0 ≡ get_or (take 8 bytes) i 0 = λ i below. sym (get_or-take 8 bytes i 0 below) in
-    let field : (n : ℕ) → n + 32 ≤ 104 → (drop n bytes ≡ take 32 (drop n bytes) ++ drop (n + 32) bytes) × (length (take 32 (drop n bytes)) ≡ 32) =
+    let field : (n : ℕ) → n + 32 ≤ 104
+    → (drop n bytes ≡ take 32 (drop n bytes) ++ drop (n + 32) bytes) × (length (take 32 (drop n bytes)) ≡ 32) =
     λ n within. (
       sym (take-append-drop 32 (drop n bytes)) ∙ ap (λ (back : List ℕ). take 32 (drop n bytes) ++ back) (drop-drop 32 n bytes),
       omega (arith, length-take 32 (drop n bytes), length-drop n bytes),
     ) in
     (λ i. record (cell_at v bytes) { «module» = byte 5 (omega arith) i; flag = byte 6 (omega arith) i == 1 })
-    ∙ cell_of_fields-only bytes (take 8 bytes) (take 32 (drop 8 bytes)) (take 32 (drop 40 bytes)) (take 32 (drop 72 bytes)) _ _ _ _ cell is e
+    ∙ cell_of_fields-only bytes (take 8 bytes) (take 32 (drop 8 bytes)) (take 32 (drop 40 bytes)) (take 32 (drop 72 bytes))
+    _ _ _ _ cell is e
     (sym (take-append-drop 8 bytes)) (omega (arith, length-take 8 bytes)) (field 8 (omega arith)) (field 40 (omega arith))
     (field 72 (omega arith)) v (t ∙ byte 4 (omega arith))
 
