@@ -26,4 +26,4 @@ pub use laws::{
 pub use mm_model::{BatchRun, run_batch};
 pub use mm_seal::KeptKey;
 pub use turn::Turn;
-pub use whole::{Committed, commit, finish_call, read_call};
+pub use whole::{Committed, commit, finish_call, read_call, read_call_alone};

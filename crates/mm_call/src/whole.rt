@@ -58,6 +58,19 @@ pub fn read_call<O: Operation<Answer = BatchAnswer, Refusal = Refusal>, P: Platf
     }
 }
 
+/// `read_call` with a key that is absorbed for this call alone.
+#[inline(always)]
+pub fn read_call_alone<O: Operation<Answer = BatchAnswer, Refusal = Refusal>, P: Platform>(
+    op: &O,
+    platform: &mut P,
+) -> Result<OpFinding<BatchAnswer>, Refusal>
+    ensures reads { CallReads (O.asked op.now) (P.standing platform.old) (P.standing platform.new)
+        result }
+    ensures room { LeavesRoom result (P.standing platform.new) }
+{
+    read_call(op, platform, &mut KeptKey::new())
+}
+
 /// Makes the changing steps, which commit what was found; a repeat has none. Takes no memory, but
 /// the room that the reading steps left.
 pub fn commit<P: Platform>(

@@ -15,7 +15,7 @@ ghost use Rattle.mm_opt.specs.OptCall.{opt_call};
 ghost use Rattle.mm_opt.specs.Operation.{opt_operation};
 
 use crate::operation::OptAsk;
-use mm_call::{Committed, KeptKey, commit, finish_call, read_call};
+use mm_call::{Committed, KeptKey, commit, finish_call, read_call_alone};
 use mm_machine::OpFinding;
 use mm_model::{Answer, BatchAnswer, Refusal};
 use mm_module::{Batch, Module};
@@ -69,8 +69,7 @@ pub fn prepare<M: Module, P: Platform>(
         offer,
         batch,
     };
-    let mut keys = KeptKey::new();
-    match read_call(&ask, platform, &mut keys) {
+    match read_call_alone(&ask, platform) {
         Err(refusal) => Err(refusal),
         Ok(found) => Ok(Prepared { found }),
     }

@@ -8,29 +8,31 @@ pub returns-in-Err-clause-goes : goal.returns-in-Err-clause-goes
 returns-in-Err-clause-goes g c =
     λ (short : is_long (One c.args.request.now) ≡ false).
     prepared (g.M.Module.meaning c.args.module.now) (g.P.Device.standing c.args.platform.now)
-    (g.P.Device.standing c.read_call.new.platform) c.args.offer.now (One c.args.request.now) (Err c.in-Err.refusal) c.in-Err.ensures.reads
+    (g.P.Device.standing c.read_call_alone.new.platform) c.args.offer.now (One c.args.request.now) (Err c.in-Err.refusal)
+    c.in-Err.ensures.reads
 
-pub returns-clause-goes : goal.returns-clause-goes
-returns-clause-goes g c =
+pub returns-in-Ok-clause-goes : goal.returns-in-Ok-clause-goes
+returns-in-Ok-clause-goes g c =
     λ (short : is_long (One c.args.request.now) ≡ false).
     prepared (g.M.Module.meaning c.args.module.now) (g.P.Device.standing c.args.platform.now)
-    (g.P.Device.standing c.read_call.new.platform) c.args.offer.now (One c.args.request.now) (Ok c.in-Ok.found) c.in-Ok.ensures.reads
+    (g.P.Device.standing c.read_call_alone.new.platform) c.args.offer.now (One c.args.request.now) (Ok c.in-Ok.found) c.in-Ok.ensures.reads
 
 pub returns-in-Err-clause-faults : goal.returns-in-Err-clause-faults
 returns-in-Err-clause-faults g c =
     let meaning = g.M.Module.meaning c.args.module.now in
     reads_blamed (basic_operation meaning c.args.offer.now (One c.args.request.now))
     (quiet meaning c.args.offer.now (One c.args.request.now))
-    (g.P.Device.standing c.args.platform.now) (g.P.Device.standing c.read_call.new.platform) (Err c.in-Err.refusal) c.in-Err.ensures.reads
+    (g.P.Device.standing c.args.platform.now) (g.P.Device.standing c.read_call_alone.new.platform) (Err c.in-Err.refusal)
+    c.in-Err.ensures.reads
 
-pub returns-clause-faults : goal.returns-clause-faults
-returns-clause-faults g c =
+pub returns-in-Ok-clause-faults : goal.returns-in-Ok-clause-faults
+returns-in-Ok-clause-faults g c =
     let meaning = g.M.Module.meaning c.args.module.now in
     reads_blamed (basic_operation meaning c.args.offer.now (One c.args.request.now))
     (quiet meaning c.args.offer.now (One c.args.request.now))
-    (g.P.Device.standing c.args.platform.now) (g.P.Device.standing c.read_call.new.platform) (Ok c.in-Ok.found) c.in-Ok.ensures.reads
+    (g.P.Device.standing c.args.platform.now) (g.P.Device.standing c.read_call_alone.new.platform) (Ok c.in-Ok.found) c.in-Ok.ensures.reads
 
 pub invariant_of-result : goal.invariant_of-result
 invariant_of-result g c =
     reads_extend (g.M.Module.meaning c.args.module.now) c.args.offer.now (One c.args.request.now)
-    (g.P.Device.standing c.args.platform.now) (g.P.Device.standing c.read_call.new.platform) c.in-Ok.found c.in-Ok.ensures.reads
+    (g.P.Device.standing c.args.platform.now) (g.P.Device.standing c.read_call_alone.new.platform) c.in-Ok.found c.in-Ok.ensures.reads
