@@ -17,7 +17,7 @@ use std::alloc::Global;
 ///
 /// `seed HEX`, of 64 hexadecimal digits, sets the seed once. `draw N`, N from 1 to 16, says the
 /// place and N words, each in eight lower-case digits, and moves on by N.
-#[derive(Clone, Copy, Debug, PartialEq, Eq)]
+#[derive(Clone, Copy)]
 pub struct Dispenser;
 
 /// What a dispenser keeps.

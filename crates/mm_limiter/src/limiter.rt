@@ -15,7 +15,7 @@ use std::alloc::Global;
 ///
 /// A state is the byte 00 before a secret is set, and from then on 01, the number of guesses, those
 /// left, the length of the secret (1 byte each) and the secret.
-#[derive(Clone, Copy, Debug, PartialEq, Eq)]
+#[derive(Clone, Copy)]
 pub struct Limiter;
 
 /// What a limiter keeps.
@@ -38,7 +38,7 @@ enum Request<'a> {
 }
 
 /// What a limiter says.
-#[derive(Clone, Copy, PartialEq, Eq)]
+#[derive(Clone, Copy)]
 enum Output {
     Set,
     Taken,
