@@ -11,7 +11,7 @@ use mm_digest::{Digest, Variant, zero};
 use mm_seal::{Cell, CellFault, cell_bytes};
 
 /// A platform that was invited: it waits for the ticket with its nonce.
-#[derive(Clone, Copy, Debug, PartialEq, Eq)]
+#[derive(Clone, Copy)]
 pub struct WaitingCell {
     pub variant: Variant,
     /// The module's id.
@@ -24,7 +24,7 @@ pub struct WaitingCell {
 }
 
 /// A platform that was retired: its module has left it, for the one that waits for this nonce.
-#[derive(Clone, Copy, Debug, PartialEq, Eq)]
+#[derive(Clone, Copy)]
 pub struct RetiredCell {
     pub variant: Variant,
     /// The module's id.
@@ -37,7 +37,7 @@ pub struct RetiredCell {
 }
 
 /// What the cell holds: the module lives there, is awaited there, or has left.
-#[derive(Clone, Copy, Debug, PartialEq, Eq)]
+#[derive(Clone, Copy)]
 pub enum MovedCell {
     Live(Cell),
     Waiting(WaitingCell),

@@ -18,7 +18,7 @@ const FRONT_LENGTH: usize = 82;
 const TAG_LENGTH: usize = 32;
 
 /// What a ticket says, with the state borrowed.
-#[derive(Clone, Copy, Debug)]
+#[derive(Clone, Copy)]
 pub struct Ticket<'a> {
     /// The nonce of the invitation that the ticket is for.
     pub nonce: [u8; 32],
@@ -27,7 +27,7 @@ pub struct Ticket<'a> {
 }
 
 /// A ticket that was taken apart: what it says, the bytes that were signed, and its tag.
-#[derive(Debug, Drop)]
+#[derive(Drop)]
 pub struct OfferedTicket<'a> {
     ticket: Ticket<'a>,
     signed: &'a [u8],

@@ -6,7 +6,7 @@ use mm_digest::Digest;
 use mm_schedule::Offer;
 
 /// How the next step of a call in flight ends it.
-#[derive(Clone, Copy, Debug, PartialEq, Eq)]
+#[derive(Clone, Copy)]
 pub enum CallBreak {
     /// Power is lost behind the step and comes back.
     Cut,
@@ -17,7 +17,7 @@ pub enum CallBreak {
 }
 
 /// What happens in one slot.
-#[derive(Debug, Drop)]
+#[derive(Drop)]
 pub enum SlotAction {
     /// A call begins that asks a request of the offered snapshot.
     Begin { offer: Offer, request: Bytes },
@@ -32,7 +32,7 @@ pub enum SlotAction {
 }
 
 /// One event of a platform with slots.
-#[derive(Debug, Drop)]
+#[derive(Drop)]
 pub enum SlotEvent {
     /// Power is lost and returns, for all slots.
     Power,

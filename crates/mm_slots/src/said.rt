@@ -3,7 +3,7 @@
 use mm_schedule::Reply;
 
 /// The answer to what happens in a slot.
-#[derive(Debug, Drop)]
+#[derive(Drop)]
 pub enum SlotReply {
     /// A call is in flight already.
     Busy,

@@ -5,14 +5,14 @@ use mm_platform::Stop;
 use mm_schedule::{Event, Meddles, Offer};
 
 /// The first side or the second, whose numbers are 0 and 1.
-#[derive(Clone, Copy, Debug, PartialEq, Eq)]
+#[derive(Clone, Copy)]
 pub enum SideChoice {
     First,
     Second,
 }
 
 /// A command that moves the module.
-#[derive(Debug, Drop)]
+#[derive(Drop)]
 pub enum Command {
     /// The module is invited to the side, under a nonce.
     Invite { nonce: Nonce },
@@ -24,7 +24,7 @@ pub enum Command {
 }
 
 /// What happens on a side.
-#[derive(Debug, Drop)]
+#[derive(Drop)]
 pub enum SideAct {
     /// An event of a schedule.
     Plain(Event),
@@ -38,7 +38,7 @@ pub enum SideAct {
 }
 
 /// One event of two sides.
-#[derive(Debug, Drop)]
+#[derive(Drop)]
 pub struct SideEvent {
     pub which: SideChoice,
     pub act: SideAct,

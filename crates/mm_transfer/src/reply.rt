@@ -3,7 +3,7 @@
 use mm_schedule::{Cause, Reply, Way};
 
 /// Why a move is refused.
-#[derive(Clone, Copy, Debug, PartialEq, Eq)]
+#[derive(Clone, Copy)]
 pub enum MoveCause {
     /// As a call of a schedule is refused.
     Refused(Cause),
@@ -20,7 +20,7 @@ pub enum MoveCause {
 }
 
 /// The answer to an event of two sides.
-#[derive(Debug, Drop)]
+#[derive(Drop)]
 pub enum MoveReply {
     /// The reply to an event of a schedule.
     Said(Reply),
