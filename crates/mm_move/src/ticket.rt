@@ -1,6 +1,6 @@
 //! Tickets: what a retired platform gives to the one that was invited, sealed under the link's key.
 
-ghost use Rattle.std.specs.Prelude.{◌≡◌, ◌≤◌, IfOk, MatchOption, true, false, length};
+ghost use Rattle.std.specs.Prelude.{◌≡◌, ◌≤◌, [], IfOk, OnOk, MatchOption, true, false, length};
 ghost use Rattle.mm_base.specs.Limits.{last_position, limit_of};
 ghost use Rattle.mm_seal.specs.Body.{content_of};
 ghost use Rattle.mm_seal.specs.PartsWords.{is_bounded};
@@ -82,20 +82,29 @@ pub fn place_at(variant: Variant, summary: Digest) -> Place
 
 /// The bytes of this ticket, sealed under the key. Its position is at most 2^48, and its state has
 /// at most as many bytes as the module's id allows.
-#[tactic(auto, unfolding(crate::specs::Tickets::sealed_ticket))]
 pub fn ticket_bytes(alloc: Global, key: &[u8; 32], ticket: &Ticket<'_>) -> Result<Bytes, Memory>
     requires place { IsAtAnchor ticket.now.body.place }
     requires position { ticket.now.body.position ≤ last_position }
     requires state { length ticket.now.body.state.now ≤ limit_of ticket.now.body.module }
     ensures { IfOk result (λ bytes. bytes ≡ sealed_ticket key.now (ticket_content ticket.now)) }
 {
-    let state = ticket.body.state;
-    let mut bytes = Bytes::with_capacity(alloc, FRONT_LENGTH + state.len() + TAG_LENGTH)?;
-    bytes.append(&front_of(ticket))?;
-    bytes.append(state)?;
-    let tag = HmacKey::new(key).tag(bytes.as_slice());
-    bytes.append(&tag.bytes)?;
+    let room = FRONT_LENGTH + ticket.body.state.len() + TAG_LENGTH;
+    let mut bytes = Bytes::with_capacity(alloc, room)?;
+    put_sealed(key, ticket, &mut bytes)?;
     Ok(bytes)
+}
+
+// Puts the bytes of a ticket where there are none.
+#[tactic(auto, unfolding(crate::specs::Tickets::sealed_ticket))]
+fn put_sealed(key: &[u8; 32], ticket: &Ticket<'_>, into: &mut Bytes) -> Result<(), Memory>
+    requires nothing { into.old ≡ [] }
+    requires state { length ticket.now.body.state.now ≤ limit_of ticket.now.body.module }
+    ensures { OnOk result (into.new ≡ sealed_ticket key.now (ticket_content ticket.now)) }
+{
+    into.append(&front_of(ticket))?;
+    into.append(ticket.body.state)?;
+    let tag = HmacKey::new(key).tag(into.as_slice());
+    into.append(&tag.bytes)
 }
 
 // What stands before the state.
