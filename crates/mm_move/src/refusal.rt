@@ -9,7 +9,7 @@ use thiserror::Error;
 #[derive(Clone, Copy, Debug, Error)]
 pub enum MoveRefusal {
     /// As a call of the module is refused: never as Long, Lost or Full.
-    #[error("{0}")]
+    #[error(transparent)]
     Core(Refusal),
     /// The platform has a module, or waits for another ticket.
     #[error("the platform isn't free")]

@@ -1,6 +1,7 @@
 //! Tickets: what a retired platform gives to the one that was invited, sealed under the link's key.
 
-ghost use Rattle.std.specs.Prelude.{◌≡◌, ◌≤◌, [], IfOk, OnOk, MatchOption, true, false, length};
+ghost use Rattle.std.specs.Prelude.{◌≡◌, ◌≤◌, ◌++◌, [], IfOk, OnOk, MatchOption, true, false, length};
+ghost use Rattle.mm_base.specs.Fields.{eight_bytes, four_bytes};
 ghost use Rattle.mm_base.specs.Limits.{last_position, limit_of};
 ghost use Rattle.mm_seal.specs.Body.{content_of};
 ghost use Rattle.mm_seal.specs.PartsWords.{is_bounded};
@@ -113,7 +114,7 @@ fn front_of(ticket: &Ticket<'_>) -> [u8; FRONT_LENGTH]
     requires { length ticket.now.body.state.now ≤ limit_of ticket.now.body.module }
     ensures { result ≡ ticket_front (ticket_content ticket.now) }
 {
-    let body = ticket.body;
+    let body = &ticket.body;
     let mut bytes = [0; FRONT_LENGTH];
     let variant = body.place.variant();
     let head = [b'M', b'M', b'T', b'1', variant.byte(), body.module];
@@ -121,9 +122,19 @@ fn front_of(ticket: &Ticket<'_>) -> [u8; FRONT_LENGTH]
     front.copy_from_slice(&head);
     let (nonce, rest) = rest.split_at_mut(32);
     nonce.copy_from_slice(&ticket.nonce);
-    let (summary, rest) = rest.split_at_mut(32);
+    let (summary, counts) = rest.split_at_mut(32);
     summary.copy_from_slice(&summary_of(&body.place).bytes);
-    let (position, length) = rest.split_at_mut(8);
+    counts.copy_from_slice(&counts_of(body));
+    bytes
+}
+
+// The position, and the length of the state.
+fn counts_of(body: &Body<'_>) -> [u8; 12]
+    requires { length body.now.state.now ≤ limit_of body.now.module }
+    ensures { result ≡ eight_bytes body.now.position ++ four_bytes (length body.now.state.now) }
+{
+    let mut bytes = [0; 12];
+    let (position, length) = bytes.split_at_mut(8);
     position.copy_from_slice(&bytes_of_u64(body.position));
     length.copy_from_slice(&bytes_of_u32(body.state.len() as u32));
     bytes
