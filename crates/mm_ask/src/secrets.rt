@@ -2,7 +2,7 @@
 
 /// The key that an instance's snapshots are sealed under, and the barrier that guards its
 /// register's values in Opt. Basic ignores the barrier.
-#[derive(Clone, Copy)]
+#[derive(Clone, Copy, Debug, PartialEq, Eq)]
 pub struct Secrets {
     pub key: [u8; 32],
     pub barrier: [u8; 32],

@@ -9,7 +9,7 @@ use mm_recovery::HostFault;
 use thiserror::Error;
 
 /// Why a session ended before its input did. Lines are numbered from 1.
-#[derive(Clone, Copy, Debug, Error)]
+#[derive(Clone, Copy, Debug, PartialEq, Eq, Error)]
 pub enum SessionFault {
     /// The host can't go on. Want of memory is told so, before the first line too.
     #[error(transparent)]

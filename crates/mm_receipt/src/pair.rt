@@ -17,7 +17,7 @@ pub struct GoodPair {
 }
 
 /// What a pair is answered.
-#[derive(Clone, Copy)]
+#[derive(Clone, Copy, PartialEq, Eq)]
 pub enum PairVerdict {
     /// The output has not the form of a receipt.
     NoForm,

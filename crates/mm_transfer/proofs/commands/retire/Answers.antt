@@ -30,15 +30,15 @@ returns-in-Ok-Some-clause-made c = λ which fits counted.
     c.args.course.now.stop c.args.course.now.meddles.now c.args.here.now.seat.platform _ c.planned_retire-came.result c.link.result
     (link_of pair) c.bytes-bytes.result.now (c.link.ensures c.args.here.now.seat.header) (ap Some c.bytes-bytes.ensures ∙ found)
     c.planned_retire-came.ensures in
+    let left = retired_done pair which c.args.nonce.now.bytes c.args.offer.now c.args.course.now.stop c.args.course.now.meddles.now
+    c.args.here.now in
     elim c.match-offered-2.branch [
-      | in-Made-1 w ↦ rw w.here-is (retired_done pair which c.args.nonce.now.bytes c.args.offer.now c.args.course.now.stop c.args.course.now.meddles.now c.args.here.now _
-          c.args.between.now _ c.leave.new.self c.is_live-was_live.result c.cell.result.now c.planned_retire-came.result c.leave.result
-          c.told-nonce named c.is_live-was_live.ensures c.cell.ensures
+      | in-Made-1 w ↦ rw w.here-is (left _ c.args.between.now _ c.leave.new.self c.is_live-was_live.result c.cell.result.now
+          c.planned_retire-came.result c.leave.result c.told-nonce named c.is_live-was_live.ensures c.cell.ensures
           (record { digest = refl; issued = refl; committed = refl })
           (record { tickets = c.reserve.ensures.items; kept = refl; away = refl }) c.leave.ensures fits counted)
-      | in-Lent-1 w ↦ rw w.here-is (retired_done pair which c.args.nonce.now.bytes c.args.offer.now c.args.course.now.stop c.args.course.now.meddles.now c.args.here.now _
-          c.args.between.now _ c.leave.new.self c.is_live-was_live.result c.cell.result.now c.planned_retire-came.result c.leave.result
-          c.told-nonce named c.is_live-was_live.ensures c.cell.ensures
+      | in-Lent-1 w ↦ rw w.here-is (left _ c.args.between.now _ c.leave.new.self c.is_live-was_live.result c.cell.result.now
+          c.planned_retire-came.result c.leave.result c.told-nonce named c.is_live-was_live.ensures c.cell.ensures
           (record { digest = refl; issued = refl; committed = refl })
           (record { tickets = c.reserve.ensures.items; kept = refl; away = refl }) c.leave.ensures fits counted)
     ]
