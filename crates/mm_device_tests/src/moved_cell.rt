@@ -55,7 +55,7 @@ fn are_read_back(variant: Variant, module: u8) -> bool {
 }
 
 fn is_none(bytes: &[u8; CELL_LENGTH]) -> bool {
-    read_moved(bytes) == Err(CellFault::Cell)
+    matches!(read_moved(bytes), Err(CellFault::Cell))
 }
 
 // Whether the bytes are no cell with one of them changed.
@@ -79,7 +79,7 @@ fn cells_are_read_as_they_are_spelled(rt: HostRuntime) -> Result<(), Fail> {
     for module in [0, 1, 128, 255] {
         assert!(rt; are_read_back(Variant::Basic, module) && are_read_back(Variant::Opt, module));
     }
-    assert!(rt; read_moved(&[0; CELL_LENGTH]) == Err(CellFault::Blank));
+    assert!(rt; matches!(read_moved(&[0; CELL_LENGTH]), Err(CellFault::Blank)));
     Ok(())
 }
 

@@ -27,7 +27,7 @@ use mm_seal::{Body, Cell, CellFault, PartsFault, cell_bytes, seal};
 use std::alloc::Global;
 
 /// The module lives on the platform: where its history stands, and the first snapshot there.
-#[derive(Debug, Drop)]
+#[derive(Drop)]
 pub struct Accepted {
     /// How many requests were run.
     pub position: u64,

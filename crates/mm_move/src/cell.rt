@@ -1,9 +1,9 @@
 //! The non-volatile cell of a platform that a module lives on, is awaited on, or has left.
 
-ghost use Rattle.std.specs.Prelude.{◌≡◌, IfOk};
+ghost use Rattle.std.specs.Prelude.{◌≡◌, ◌++◌, [], IfOk};
 ghost use Rattle.std.specs.Str.{bytes_eq};
 ghost use Rattle.mm_seal.specs.Cell.{blank_cell};
-ghost use Rattle.mm_move.specs.Cells.{FitsMoved, is_fit_for_variant, fits_variant, waiting_spelling, retired_spelling, moved_spelling, waiting_cell_in, retired_cell_in, live_cell_in, moved_cell_in, is_spelled_by, moved_cell_of};
+ghost use Rattle.mm_move.specs.Cells.{FitsMoved, head_of, is_fit_for_variant, fits_variant, waiting_spelling, retired_spelling, moved_spelling, waiting_cell_in, retired_cell_in, live_cell_in, moved_cell_in, is_spelled_by, moved_cell_of};
 
 use crate::fields::{part, variant_in};
 use mm_base::CELL_LENGTH;
@@ -11,7 +11,7 @@ use mm_digest::{Digest, Variant, zero};
 use mm_seal::{Cell, CellFault, cell_bytes};
 
 /// A platform that was invited: it waits for the ticket with its nonce.
-#[derive(Clone, Copy, Debug, PartialEq, Eq)]
+#[derive(Clone, Copy)]
 pub struct WaitingCell {
     pub variant: Variant,
     /// The module's id.
@@ -24,7 +24,7 @@ pub struct WaitingCell {
 }
 
 /// A platform that was retired: its module has left it, for the one that waits for this nonce.
-#[derive(Clone, Copy, Debug, PartialEq, Eq)]
+#[derive(Clone, Copy)]
 pub struct RetiredCell {
     pub variant: Variant,
     /// The module's id.
@@ -37,7 +37,7 @@ pub struct RetiredCell {
 }
 
 /// What the cell holds: the module lives there, is awaited there, or has left.
-#[derive(Clone, Copy, PartialEq, Eq)]
+#[derive(Clone, Copy)]
 pub enum MovedCell {
     Live(Cell),
     Waiting(WaitingCell),
@@ -62,25 +62,8 @@ pub fn moved_bytes(cell: &MovedCell) -> [u8; CELL_LENGTH]
 pub fn waiting_bytes(cell: &WaitingCell) -> [u8; CELL_LENGTH]
     ensures { result ≡ waiting_spelling cell.now }
 {
-    let mut bytes = [0; CELL_LENGTH];
-    let head = [
-        b'M',
-        b'M',
-        b'W',
-        b'1',
-        cell.variant.byte(),
-        cell.module,
-        0,
-        0,
-    ];
-    let (front, rest) = bytes.split_at_mut(8);
-    front.copy_from_slice(&head);
-    let (nonce, rest) = rest.split_at_mut(32);
-    nonce.copy_from_slice(&cell.nonce);
-    let (key, barrier) = rest.split_at_mut(32);
-    key.copy_from_slice(&cell.key);
-    barrier.copy_from_slice(&cell.barrier);
-    bytes
+    let head = head_of(b'W', cell.variant, cell.module);
+    laid_out(&head, &cell.nonce, &cell.key, &cell.barrier)
 }
 
 /// The bytes of a retired cell.
@@ -88,24 +71,29 @@ pub fn waiting_bytes(cell: &WaitingCell) -> [u8; CELL_LENGTH]
 pub fn retired_bytes(cell: &RetiredCell) -> [u8; CELL_LENGTH]
     ensures { result ≡ retired_spelling cell.now }
 {
+    let head = head_of(b'X', cell.variant, cell.module);
+    laid_out(&head, &cell.summary.bytes, &cell.key, &cell.nonce)
+}
+
+// What stands before the fields of a cell, by the letter of its form.
+fn head_of(letter: u8, variant: Variant, module: u8) -> [u8; 8]
+    ensures { result ≡ head_of letter variant «module» [] }
+{
+    [b'M', b'M', letter, b'1', variant.byte(), module, 0, 0]
+}
+
+// The bytes of a cell: its head, and three fields.
+fn laid_out(head: &[u8; 8], first: &[u8; 32], key: &[u8; 32], last: &[u8; 32]) -> [u8; CELL_LENGTH]
+    ensures { result ≡ head.now ++ (first.now ++ (key.now ++ last.now)) }
+{
     let mut bytes = [0; CELL_LENGTH];
-    let head = [
-        b'M',
-        b'M',
-        b'X',
-        b'1',
-        cell.variant.byte(),
-        cell.module,
-        0,
-        0,
-    ];
     let (front, rest) = bytes.split_at_mut(8);
-    front.copy_from_slice(&head);
-    let (summary, rest) = rest.split_at_mut(32);
-    summary.copy_from_slice(&cell.summary.bytes);
-    let (key, nonce) = rest.split_at_mut(32);
-    key.copy_from_slice(&cell.key);
-    nonce.copy_from_slice(&cell.nonce);
+    front.copy_from_slice(head);
+    let (field, rest) = rest.split_at_mut(32);
+    field.copy_from_slice(first);
+    let (field, rest) = rest.split_at_mut(32);
+    field.copy_from_slice(key);
+    rest.copy_from_slice(last);
     bytes
 }
 

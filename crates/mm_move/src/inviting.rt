@@ -17,7 +17,7 @@ use mm_platform::Platform;
 use mm_seal::CellFault;
 
 /// How an invitation was answered.
-#[derive(Clone, Copy, Debug, PartialEq, Eq)]
+#[derive(Clone, Copy)]
 pub enum Invited {
     /// The platform waits from now on.
     Done,

@@ -1,7 +1,7 @@
 //! What two platforms share.
 
 /// What the platforms share between which a module moves.
-#[derive(Clone, Copy, Debug, PartialEq, Eq)]
+#[derive(Clone, Copy)]
 pub struct Link {
     /// The key that tickets are sealed under.
     pub key: [u8; 32],

@@ -6,10 +6,10 @@ use mm_model::Refusal;
 use thiserror::Error;
 
 /// Why a move was refused, each in the order of its call.
-#[derive(Clone, Copy, Debug, PartialEq, Eq, Error)]
+#[derive(Clone, Copy, Debug, Error)]
 pub enum MoveRefusal {
     /// As a call of the module is refused: never as Long, Lost or Full.
-    #[error("{0}")]
+    #[error(transparent)]
     Core(Refusal),
     /// The platform has a module, or waits for another ticket.
     #[error("the platform isn't free")]

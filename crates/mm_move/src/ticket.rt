@@ -1,6 +1,7 @@
 //! Tickets: what a retired platform gives to the one that was invited, sealed under the link's key.
 
-ghost use Rattle.std.specs.Prelude.{◌≡◌, ◌≤◌, IfOk, MatchOption, true, false, length};
+ghost use Rattle.std.specs.Prelude.{◌≡◌, ◌≤◌, ◌++◌, [], IfOk, OnOk, MatchOption, true, false, length};
+ghost use Rattle.mm_base.specs.Fields.{eight_bytes, four_bytes};
 ghost use Rattle.mm_base.specs.Limits.{last_position, limit_of};
 ghost use Rattle.mm_seal.specs.Body.{content_of};
 ghost use Rattle.mm_seal.specs.PartsWords.{is_bounded};
@@ -18,7 +19,7 @@ const FRONT_LENGTH: usize = 82;
 const TAG_LENGTH: usize = 32;
 
 /// What a ticket says, with the state borrowed.
-#[derive(Clone, Copy, Debug)]
+#[derive(Clone, Copy)]
 pub struct Ticket<'a> {
     /// The nonce of the invitation that the ticket is for.
     pub nonce: [u8; 32],
@@ -27,7 +28,7 @@ pub struct Ticket<'a> {
 }
 
 /// A ticket that was taken apart: what it says, the bytes that were signed, and its tag.
-#[derive(Debug, Drop)]
+#[derive(Drop)]
 pub struct OfferedTicket<'a> {
     ticket: Ticket<'a>,
     signed: &'a [u8],
@@ -82,20 +83,29 @@ pub fn place_at(variant: Variant, summary: Digest) -> Place
 
 /// The bytes of this ticket, sealed under the key. Its position is at most 2^48, and its state has
 /// at most as many bytes as the module's id allows.
-#[tactic(auto, unfolding(crate::specs::Tickets::sealed_ticket))]
 pub fn ticket_bytes(alloc: Global, key: &[u8; 32], ticket: &Ticket<'_>) -> Result<Bytes, Memory>
     requires place { IsAtAnchor ticket.now.body.place }
     requires position { ticket.now.body.position ≤ last_position }
     requires state { length ticket.now.body.state.now ≤ limit_of ticket.now.body.module }
     ensures { IfOk result (λ bytes. bytes ≡ sealed_ticket key.now (ticket_content ticket.now)) }
 {
-    let state = ticket.body.state;
-    let mut bytes = Bytes::with_capacity(alloc, FRONT_LENGTH + state.len() + TAG_LENGTH)?;
-    bytes.append(&front_of(ticket))?;
-    bytes.append(state)?;
-    let tag = HmacKey::new(key).tag(bytes.as_slice());
-    bytes.append(&tag.bytes)?;
+    let room = FRONT_LENGTH + ticket.body.state.len() + TAG_LENGTH;
+    let mut bytes = Bytes::with_capacity(alloc, room)?;
+    put_sealed(key, ticket, &mut bytes)?;
     Ok(bytes)
+}
+
+// Puts the bytes of a ticket where there are none.
+#[tactic(auto, unfolding(crate::specs::Tickets::sealed_ticket))]
+fn put_sealed(key: &[u8; 32], ticket: &Ticket<'_>, into: &mut Bytes) -> Result<(), Memory>
+    requires nothing { into.old ≡ [] }
+    requires state { length ticket.now.body.state.now ≤ limit_of ticket.now.body.module }
+    ensures { OnOk result (into.new ≡ sealed_ticket key.now (ticket_content ticket.now)) }
+{
+    into.append(&front_of(ticket))?;
+    into.append(ticket.body.state)?;
+    let tag = HmacKey::new(key).tag(into.as_slice());
+    into.append(&tag.bytes)
 }
 
 // What stands before the state.
@@ -104,7 +114,7 @@ fn front_of(ticket: &Ticket<'_>) -> [u8; FRONT_LENGTH]
     requires { length ticket.now.body.state.now ≤ limit_of ticket.now.body.module }
     ensures { result ≡ ticket_front (ticket_content ticket.now) }
 {
-    let body = ticket.body;
+    let body = &ticket.body;
     let mut bytes = [0; FRONT_LENGTH];
     let variant = body.place.variant();
     let head = [b'M', b'M', b'T', b'1', variant.byte(), body.module];
@@ -112,9 +122,19 @@ fn front_of(ticket: &Ticket<'_>) -> [u8; FRONT_LENGTH]
     front.copy_from_slice(&head);
     let (nonce, rest) = rest.split_at_mut(32);
     nonce.copy_from_slice(&ticket.nonce);
-    let (summary, rest) = rest.split_at_mut(32);
+    let (summary, counts) = rest.split_at_mut(32);
     summary.copy_from_slice(&summary_of(&body.place).bytes);
-    let (position, length) = rest.split_at_mut(8);
+    counts.copy_from_slice(&counts_of(body));
+    bytes
+}
+
+// The position, and the length of the state.
+fn counts_of(body: &Body<'_>) -> [u8; 12]
+    requires { length body.now.state.now ≤ limit_of body.now.module }
+    ensures { result ≡ eight_bytes body.now.position ++ four_bytes (length body.now.state.now) }
+{
+    let mut bytes = [0; 12];
+    let (position, length) = bytes.split_at_mut(8);
     position.copy_from_slice(&bytes_of_u64(body.position));
     length.copy_from_slice(&bytes_of_u32(body.state.len() as u32));
     bytes

@@ -76,7 +76,7 @@ impl Parts {
         if is_long(&Batch::One(request.as_slice())) {
             return SlotReply::Replied(Reply::No(Cause::Long));
         }
-        self.flight = Some(Flight::Asks(AskInFlight {
+        self.fly(Flight::Asks(AskInFlight {
             call: OpCall::begin(),
             offer,
             bytes,
@@ -125,7 +125,7 @@ impl Parts {
             Ok(FlightOutcome::Over(called)) => Ok(self.end(called)),
             Ok(FlightOutcome::Going(call)) => {
                 let next = u64::from(call.next_step(writes));
-                self.flight = Some(Flight::Asks(AskInFlight {
+                self.fly(Flight::Asks(AskInFlight {
                     call,
                     offer,
                     bytes,

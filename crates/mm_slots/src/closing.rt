@@ -23,7 +23,7 @@ impl Parts {
         if self.flight.is_some() {
             return SlotReply::Busy;
         }
-        self.flight = Some(Flight::Closes(CheckpointInFlight {
+        self.fly(Flight::Closes(CheckpointInFlight {
             call: OpCall::begin(),
         }));
         SlotReply::Begun
@@ -50,7 +50,7 @@ impl Parts {
             Ok(FlightOutcome::Over(called)) => self.end(called),
             Ok(FlightOutcome::Going(call)) => {
                 let next = u64::from(call.next_step(OptCheckpoint.write_step()));
-                self.flight = Some(Flight::Closes(CheckpointInFlight { call }));
+                self.fly(Flight::Closes(CheckpointInFlight { call }));
                 SlotReply::Going(next)
             }
         }

@@ -6,7 +6,7 @@ use mm_digest::Digest;
 use mm_schedule::Offer;
 
 /// How the next step of a call in flight ends it.
-#[derive(Clone, Copy, Debug, PartialEq, Eq)]
+#[derive(Clone, Copy)]
 pub enum CallBreak {
     /// Power is lost behind the step and comes back.
     Cut,

@@ -36,7 +36,7 @@ pub fn stop_at(how: CallBreak, step: u8) -> Stop
 
 impl Parts {
     ghost use Rattle.std.specs.Prelude.{◌≡◌, ◌<◌, ◌^◌, IfOk, OnErr, IsSome, vec_len, vec_capacity};
-    ghost use Rattle.mm_slots.specs.HeldParts.{instance_in, slot_in, PartsFit, SlotComesTo, SlotLacksMemory, CallEndsIn};
+    ghost use Rattle.mm_slots.specs.HeldParts.{instance_in, slot_in, parts_with_flight, PartsFit, SlotComesTo, SlotLacksMemory, CallEndsIn};
     ghost use Rattle.mm_slots.specs.Tenant.{turn_by_action};
 
     /// Lets something happen in the slot. After want of memory nothing has changed, but that a call
@@ -86,6 +86,13 @@ impl Parts {
             Some(Flight::Asks(asking)) => self.break_asking(alloc, asking, how),
             Some(Flight::Closes(closing)) => self.break_closing(closing, how),
         }
+    }
+
+    /// This call is in flight from now on.
+    pub fn fly(&mut self, flight: Flight)
+        ensures { self.new ≡ parts_with_flight self.old flight }
+    {
+        self.flight = Some(flight);
     }
 
     /// A call is over: counts what it committed, and keeps the snapshot that it hands out.

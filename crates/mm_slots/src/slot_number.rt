@@ -7,7 +7,7 @@ use mm_base::{Bytes, Memory, put_decimal};
 use std::marker::Model;
 
 /// The number of a slot of a platform. Contracts see it as a number.
-#[derive(Clone, Copy, Debug, PartialEq, Eq)]
+#[derive(Clone, Copy, PartialEq, Eq)]
 pub struct SlotNumber {
     place: usize,
 }

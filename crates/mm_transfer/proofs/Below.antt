@@ -92,7 +92,6 @@ pub use Rattle.mm_world.proofs.Above.{stop_power, stopped_at}
 pub use Rattle.mm_play.proofs.Above.{events_err, events_ok, plays_err, unrefused}
 pub use Rattle.mm_transfer.specs.SideCommands.{both_with, command_reach, CommandDone, outcome_of_command, CommandLacks, CommandGoes, TellsEntry}
 pub use Rattle.mm_transfer.specs.SideCommands.{FitsIssuedTickets, has_moved, TellsInvitation, KeepsDigest, TellsRetirement, TellsRefusalAs}
-pub use Rattle.mm_transfer.specs.SideCommands.{TriesMove}
 pub use Rattle.mm_transfer.specs.Events.{act_of, command_of, side_event_of, which_of}
 pub use Rattle.mm_transfer.specs.Headline.{IsOneTransfer}
 pub use Rattle.mm_transfer.specs.OneSide.{at_by, at_in, SideComes, FitsSide, IsNew, SideLacks, link_of, role_in}

@@ -5,7 +5,7 @@ use Rattle.mm_transfer.proofs.Below.{Meddle, Stop, Standing, Instance, Digests, 
 use Rattle.mm_transfer.proofs.Below.{ReadyMove, MoveRefusal, Role, Effect, SideName, Pair, instance_on, SideState, BothSides, digest_mover}
 use Rattle.mm_transfer.proofs.Below.{DenialCause, FoundMove, MoveCommand, Denied, move_steps, effect_if, effect_of, state_after_steps}
 use Rattle.mm_transfer.proofs.Below.{sides_after_effect_if, found_command, outcome_if_found, move_end_outcome, role_after, IssuedTickets}
-use Rattle.mm_transfer.proofs.Below.{MoveReply, CodeSide, TellsRefusalAs, TriesMove, both_with, command_reach, outcome_of_command, FitsIssuedTickets}
+use Rattle.mm_transfer.proofs.Below.{MoveReply, CodeSide, TellsRefusalAs, both_with, command_reach, outcome_of_command, FitsIssuedTickets}
 use Rattle.mm_transfer.proofs.Below.{CommandDone, CommandLacks, has_moved, role_in, at_in, within_64, FitsSide, MovesByPlan, has_effect_at}
 use Rattle.mm_transfer.proofs.Below.{move_reply_of, refusal_of}
 use Rattle.mm_model.specs.declared.refusal.Refusal.TheVariants as core
@@ -223,42 +223,25 @@ move_done gives pair which stop meddles command found old new was now came resul
 
 -- a move with what an offer names
 
-pub tried : {A : Type 0} (finds : Link → List ℕ → List ℕ → Result (ReadyMove A) MoveRefusal) (stop : Stop) (meddles : List Meddle)
-    (offered : Option (List ℕ)) (old new : Standing) (came : Result A MoveRefusal) (called link : Link) (lent bytes : List ℕ)
-    → called ≡ link → lent ≡ bytes → Some bytes ≡ offered → MovesByPlan (finds called lent) stop meddles old new came
-    → TriesMove (finds link) stop meddles offered old new (Ok (Some came))
-tried finds stop meddles offered old new came called link lent bytes same are names planned =
-    subst (λ (x : Option (List ℕ)). TriesMove (finds link) stop meddles x old new (Ok (Some came))) names
-    (subst (λ (l : Link). MovesByPlan (finds l bytes) stop meddles old new came) same
-    (subst (λ (b : List ℕ). MovesByPlan (finds called b) stop meddles old new came) are planned))
-
 pub record Named {A : Type 0} (finds : List ℕ → List ℕ → Result (ReadyMove A) MoveRefusal) (stop : Stop) (meddles : List Meddle)
     (offered : Option (List ℕ)) (old new : Standing) (came : Result A MoveRefusal) : Type 0 where
   pub bytes : List ℕ
   pub names : offered ≡ Some bytes
   pub planned : MovesByPlan (finds bytes) stop meddles old new came
 
--- by the list that was lent, and by what came
-module _ {A : Type 0} (finds : List ℕ → List ℕ → Result (ReadyMove A) MoveRefusal) (stop : Stop) (meddles : List Meddle)
-    (xs lent : List (List ℕ)) (offer : Offer) (old new : Standing) (field : Option (Result A MoveRefusal)) (same : lent ≡ xs)
-    (tries : TriesMove finds stop meddles (offered_bytes lent offer) old new (Ok field)) where
-  tries_by : (x : Option (Result A MoveRefusal)) → field ≡ x → TriesMove finds stop meddles (offered_bytes xs offer) old new (Ok x)
-  tries_by x is = subst (λ (y : Option (Result A MoveRefusal)). TriesMove finds stop meddles (offered_bytes xs offer) old new (Ok y)) is
-      (subst (λ (l : List (List ℕ)). TriesMove finds stop meddles (offered_bytes l offer) old new (Ok field)) same tries)
-
+-- by the list that was lent, and under the link
+module _ (xs lent : List (List ℕ)) (offer : Offer) (same : lent ≡ xs) where
   -- the offer named nothing
-  pub nothing_named : field ≡ None → (offered_bytes xs offer ≡ None) × (new ≡ old)
-  nothing_named is = by_offer (offered_bytes xs offer) (tries_by None is)
-    where
-      by_offer : (offered : Option (List ℕ)) → TriesMove finds stop meddles offered old new (Ok None) → (offered ≡ None) × (new ≡ old)
-      by_offer None h = (refl, h)
-      by_offer (Some bytes) h = absurd h
+  pub nothing_named : None ≡ offered_bytes lent offer → offered_bytes xs offer ≡ None
+  nothing_named none = sym (none ∙ ap (λ (l : List (List ℕ)). offered_bytes l offer) same)
 
   -- and what it named
-  pub named_by : (came : Result A MoveRefusal) → field ≡ Some came → Named finds stop meddles (offered_bytes xs offer) old new came
-  named_by came is = by_offer (offered_bytes xs offer) (tries_by (Some came) is)
-    where
-      by_offer : (offered : Option (List ℕ)) → TriesMove finds stop meddles offered old new (Ok (Some came))
-          → Named finds stop meddles offered old new came
-      by_offer None h = absurd h
-      by_offer (Some bytes) h = record { bytes = bytes; names = refl; planned = h }
+  pub named_by : {A : Type 0} (finds : Link → List ℕ → List ℕ → Result (ReadyMove A) MoveRefusal) (stop : Stop) (meddles : List Meddle)
+      (old new : Standing) (came : Result A MoveRefusal) (called link : Link) (bytes : List ℕ) → called ≡ link
+      → Some bytes ≡ offered_bytes lent offer → MovesByPlan (finds called bytes) stop meddles old new came
+      → Named (finds link) stop meddles (offered_bytes xs offer) old new came
+  named_by finds stop meddles old new came called link bytes is names planned = record {
+    bytes = bytes;
+    names = sym (names ∙ ap (λ (l : List (List ℕ)). offered_bytes l offer) same);
+    planned = subst (λ (l : Link). MovesByPlan (finds l bytes) stop meddles old new came) is planned;
+  }

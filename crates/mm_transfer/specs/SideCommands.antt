@@ -1,8 +1,8 @@
 -- What passes between both sides, and what a command makes of a side and of it.
-use Rattle.std.specs.Prelude.{◌≡◌, ◌≤◌, ◌+◌, ◌&&◌, ℕ, Bool, not, List, [], ◌∷◌, ◌++◌, length, Option, None, Some, Result, Ok, Err, IsErr}
+use Rattle.std.specs.Prelude.{◌≡◌, ◌≤◌, ◌+◌, ◌&&◌, ℕ, Bool, not, List, [], ◌∷◌, ◌++◌, length, Result, Ok, Err, IsErr}
 use Rattle.std.specs.Prelude.{MatchResult, is_some, if◌then◌else◌}
 use Rattle.std.specs.List.{sum_by}
-use Rattle.mm_transfer.specs.Below.{Memory, Standing, Meddle, Stop, Digests, Reads, Refusal, move_fault_of, Accepted, ReadyMove}
+use Rattle.mm_transfer.specs.Below.{Memory, Meddle, Stop, Digests, Reads, Refusal, move_fault_of, Accepted}
 use Rattle.mm_transfer.specs.Below.{MoveRefusal, cause_of, way_of, SideName, Pair, instance_on, SideState, BothSides, digest_mover}
 use Rattle.mm_transfer.specs.Below.{BothOutcome, move_outcome, MoveCommand}
 use Rattle.mm_model.specs.declared.refusal.Refusal.TheVariants as core
@@ -14,7 +14,7 @@ use Rattle.mm_transfer.specs.declared.reply.MoveReply.{MoveReply}
 use Rattle.mm_transfer.specs.declared.reply.MoveReply.TheVariants as reply
 use Rattle.mm_transfer.specs.declared.side.Side.{Side as CodeSide}
 use Rattle.mm_transfer.specs.OneSide.{side_in, at_in, FitsSide}
-use Rattle.mm_transfer.specs.MovePlan.{MovesByPlan, has_effect_at}
+use Rattle.mm_transfer.specs.MovePlan.{has_effect_at}
 use Rattle.mm_transfer.specs.Replies.{move_reply_of}
 use Rattle.mm_transfer.specs.MemoryWant.{MayHaveRead}
 
@@ -93,17 +93,6 @@ TellsEntry was_live away stop (Ok accepted) old new result =
     EntryKept was_live away accepted old new result
 TellsEntry was_live away stop (Err why) old new result =
     EntryRefused was_live away stop why old new result
-
--- A move with what an offer names, over the platform: none is made where it names nothing.
-abbrev pub TriesMove : {A : Type 0} → (List ℕ → List ℕ → Result (ReadyMove A) MoveRefusal) → Stop
-    → List Meddle → Option (List ℕ)
-    → Standing → Standing → Result (Option (Result A MoveRefusal)) Memory → Type 0
-TriesMove finds stop meddles offered old new (Err memory) = new ≡ old
-TriesMove finds stop meddles None old new (Ok None) = new ≡ old
-TriesMove finds stop meddles (Some bytes) old new (Ok None) = ⊥
-TriesMove finds stop meddles None old new (Ok (Some came)) = ⊥
-TriesMove finds stop meddles (Some bytes) old new (Ok (Some came)) =
-    MovesByPlan (finds bytes) stop meddles old new came
 
 -- The side keeps the digest of its cell, where that has one; and nothing else changes.
 pub record KeepsDigest (old new : CodeSide) : Type 0 where

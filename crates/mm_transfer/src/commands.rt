@@ -1,18 +1,13 @@
 //! Commands that move the module, on one side.
 
 ghost use Rattle.std.specs.Prelude.{◌≡◌, ◌<◌, ◌^◌, Some, vec_len, vec_capacity, take, drop};
-ghost use Rattle.mm_move.specs.Cells.{moved_cell_of};
-ghost use Rattle.mm_move.specs.Orders.{retirement_in, acceptance_in};
-ghost use Rattle.mm_modules.specs.Modules.{meaning_of};
-ghost use Rattle.mm_outcome.specs.EventOffers.{offered_bytes};
 ghost use Rattle.mm_schedule.specs.declared.header.Header.{Header};
-ghost use Rattle.mm_move.specs.declared.link.Link.{Link};
 ghost use Rattle.mm_sides.specs.BothSides.{key_of};
 ghost use Rattle.mm_sides.specs.BothSides as both;
 ghost use Rattle.mm_sides.specs.Moves.{Invite, Retire, Accept};
 ghost use Rattle.mm_sides.specs.Roles.{is_live};
 ghost use Rattle.mm_transfer.specs.declared.between.IssuedTickets.{IssuedTickets};
-ghost use Rattle.mm_transfer.specs.SideCommands.{TellsInvitation, TellsEntry, KeepsDigest, TriesMove, command_reach, CommandGoes};
+ghost use Rattle.mm_transfer.specs.SideCommands.{TellsInvitation, TellsEntry, KeepsDigest, command_reach, CommandGoes};
 ghost use Rattle.mm_transfer.specs.Events.{which_of, command_of};
 ghost use Rattle.mm_transfer.specs.OneSide.{link_of, role_in, digest_by};
 ghost use Rattle.mm_transfer.specs.Pairs.{pair_of};
@@ -23,11 +18,11 @@ use crate::moving::{Mover, has_moved, planned_accept, planned_invite, planned_re
 use crate::nonce::Nonce;
 use crate::reply::MoveReply;
 use crate::side::Side;
-use mm_base::{Bytes, CELL_LENGTH, Memory};
+use mm_base::{CELL_LENGTH, Memory};
 use mm_digest::Digest;
 use mm_move::{Accepted, Invited, Link, MoveRefusal, MovedCell, read_moved};
 use mm_outcome::{CallPlan, offered, rising, world_barrier, world_key};
-use mm_platform::{MemPlatform, Stop};
+use mm_platform::Stop;
 use mm_schedule::Offer;
 use std::alloc::Global;
 
@@ -122,34 +117,6 @@ fn invite(
     invited(course.stop, came)
 }
 
-// Retires the platform with the snapshot that the offer names.
-fn try_retire(
-    mover: &Mover,
-    platform: &mut MemPlatform,
-    issued: &[Bytes],
-    nonce: &Nonce,
-    offer: &Offer,
-    course: &CallPlan<'_>,
-) -> Result<Option<Result<Bytes, MoveRefusal>>, Memory>
-    ensures { (link : Link) → link ≡ link_of (pair_of mover.now.header) → TriesMove (λ bytes cell.
-        retirement_in (meaning_of mover.now.header.«module») mover.now.header.variant link
-        nonce.now.bytes bytes (moved_cell_of cell)) course.now.stop course.now.meddles.now
-        (offered_bytes issued.now offer.now) platform.old platform.new result }
-{
-    match offered(mover.alloc, issued, offer) {
-        Err(memory) => Err(memory),
-        Ok(None) => Ok(None),
-        Ok(Some(offered)) => Ok(Some(planned_retire(
-            mover,
-            platform,
-            &link(),
-            nonce,
-            offered.bytes(),
-            course,
-        ))),
-    }
-}
-
 // The module leaves the side.
 fn retire(
     alloc: Global,
@@ -172,43 +139,15 @@ fn retire(
         alloc,
         header: seat.header,
     };
-    match try_retire(
-        &mover,
-        &mut seat.platform,
-        seat.issued.as_slice(),
-        nonce,
-        offer,
-        course,
-    ) {
+    match offered(alloc, seat.issued.as_slice(), offer) {
         Err(memory) => Err(memory),
         Ok(None) => Ok(MoveReply::NoSnapshot),
-        Ok(Some(came)) => between.leave(was_live, seat.committed, course.stop, came),
-    }
-}
-
-// Accepts the ticket that the offer names on the platform.
-fn try_accept(
-    mover: &Mover,
-    platform: &mut MemPlatform,
-    tickets: &[Bytes],
-    offer: &Offer,
-    course: &CallPlan<'_>,
-) -> Result<Option<Result<Accepted, MoveRefusal>>, Memory>
-    ensures { (link : Link) → link ≡ link_of (pair_of mover.now.header) → TriesMove (λ bytes cell.
-        acceptance_in (meaning_of mover.now.header.«module») mover.now.header.variant link bytes
-        (moved_cell_of cell)) course.now.stop course.now.meddles.now
-        (offered_bytes tickets.now offer.now) platform.old platform.new result }
-{
-    match offered(mover.alloc, tickets, offer) {
-        Err(memory) => Err(memory),
-        Ok(None) => Ok(None),
-        Ok(Some(offered)) => Ok(Some(planned_accept(
-            mover,
-            platform,
-            &link(),
-            offered.bytes(),
-            course,
-        ))),
+        Ok(Some(offered)) => {
+            let bytes = offered.bytes();
+            let platform = &mut seat.platform;
+            let came = planned_retire(&mover, platform, &link(), nonce, bytes, course);
+            between.leave(was_live, seat.committed, course.stop, came)
+        }
     }
 }
 
@@ -259,16 +198,15 @@ fn accept(
         alloc,
         header: here.seat.header,
     };
-    match try_accept(
-        &mover,
-        &mut here.seat.platform,
-        between.tickets.as_slice(),
-        offer,
-        course,
-    ) {
+    match offered(alloc, between.tickets.as_slice(), offer) {
         Err(memory) => Err(memory),
         Ok(None) => Ok(MoveReply::NoTicket),
-        Ok(Some(came)) => enter(here, was_live, between.away, course.stop, came),
+        Ok(Some(offered)) => {
+            let bytes = offered.bytes();
+            let platform = &mut here.seat.platform;
+            let came = planned_accept(&mover, platform, &link(), bytes, course);
+            enter(here, was_live, between.away, course.stop, came)
+        }
     }
 }
 

@@ -5,7 +5,7 @@ use mm_platform::Stop;
 use mm_schedule::{Event, Meddles, Offer};
 
 /// The first side or the second, whose numbers are 0 and 1.
-#[derive(Clone, Copy, Debug, PartialEq, Eq)]
+#[derive(Clone, Copy)]
 pub enum SideChoice {
     First,
     Second,

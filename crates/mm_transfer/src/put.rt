@@ -70,12 +70,12 @@ fn put_move(reply: &MoveReply, into: &mut Bytes) -> Result<(), Memory>
 {
     match reply {
         MoveReply::Said(reply) => put_reply(reply, into),
-        MoveReply::Invited => put_words(b"invited", b"", into),
+        MoveReply::Invited => into.append(b"invited\n"),
         MoveReply::Left { ticket } => put_number(b"retired ", u64::from(*ticket), into),
         MoveReply::Entered { position } => put_number(b"accepted ", *position, into),
         MoveReply::Denied(cause) => put_words(b"no ", cause.text(), into),
-        MoveReply::NoSnapshot => put_words(b"no snapshot", b"", into),
-        MoveReply::NoTicket => put_words(b"no ticket", b"", into),
+        MoveReply::NoSnapshot => into.append(b"no snapshot\n"),
+        MoveReply::NoTicket => into.append(b"no ticket\n"),
         MoveReply::Broken { way, moved } => put_words(way.text(), moved_word(*moved), into),
     }
 }

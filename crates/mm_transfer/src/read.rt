@@ -1,8 +1,9 @@
 //! Reading the lines of two sides.
 
-ghost use Rattle.std.specs.Prelude.{◌≡◌, ◌↔◌, Some, None, IfOk, IsErrOf};
+ghost use Rattle.std.specs.Prelude.{◌≡◌, ◌↔◌, List, Some, None, IfOk, IsErrOf};
 ghost use Rattle.std.specs.Option.{option_map};
 ghost use Rattle.mm_module.specs.Values.{value_at};
+ghost use Rattle.mm_platform.specs.declared.plan.Meddle.{Meddle};
 ghost use Rattle.mm_schedule.specs.Events.{meddles_of};
 ghost use Rattle.mm_schedule.specs.Texts.{offer_of};
 ghost use Rattle.mm_transfer.specs.Events.{which_of, side_event_of};
@@ -34,21 +35,22 @@ pub fn read_side_event(alloc: Global, line: &[u8]) -> Result<SideEvent, EventFau
     ensures read { IfOk result (λ event. event_at line.now ≡ Some (side_event_of event)) }
     ensures bad { IsErrOf result EventFault.Bad ↔ (event_at line.now ≡ None) }
 {
-    let Some(event) = event_in(line) else {
+    let mut meddles = Meddles::none();
+    let Some(event) = event_in(line, &mut meddles) else {
         return Err(EventFault::Bad);
     };
-    let event = owned(alloc, event)?;
+    let event = owned(alloc, &meddles, event)?;
     Ok(event)
 }
 
-// The event of a line.
+// The event of a line, with its meddles put into `meddles`.
 #[tactic(auto, unfolding(crate::specs::Grammar::event_at))]
-fn event_in(line: &[u8]) -> Option<SideEventText<'_>>
-    ensures { option_map texts.event_in result ≡ event_at line.now }
+fn event_in<'a>(line: &'a [u8], meddles: &mut Meddles) -> Option<SideEventText<'a>>
+    ensures { option_map (texts.event_in (meddles_of meddles.new)) result ≡ event_at line.now }
 {
     let (word, line) = word_in(line)?;
     let which = which_in(word)?;
-    let act = act_in(line)?;
+    let act = act_in(line, meddles)?;
     Some(SideEventText { which, act })
 }
 
@@ -68,14 +70,14 @@ fn which_in(word: &[u8]) -> Option<SideChoice>
 
 // What happens on a side.
 #[tactic(auto, unfolding(crate::specs::Grammar::act_at))]
-fn act_in(line: &[u8]) -> Option<ActText<'_>>
-    ensures { option_map texts.act_in result ≡ act_at line.now }
+fn act_in<'a>(line: &'a [u8], meddles: &mut Meddles) -> Option<ActText<'a>>
+    ensures { option_map (texts.act_in (meddles_of meddles.new)) result ≡ act_at line.now }
 {
     if is_text(line, b"power") {
         return Some(ActText::Power);
     }
     let Some(word) = after(b"extend ", line) else {
-        return prefixed_in(line);
+        return prefixed_in(line, meddles);
     };
     let value = value_in(word)?;
     Some(ActText::Extend { value })
@@ -83,41 +85,40 @@ fn act_in(line: &[u8]) -> Option<ActText<'_>>
 
 // A call or a command with what comes before it.
 #[tactic(auto, unfolding(crate::specs::Grammar::prefixed_act_at))]
-fn prefixed_in(line: &[u8]) -> Option<ActText<'_>>
-    ensures { option_map texts.act_in result ≡ prefixed_act_at line.now }
+fn prefixed_in<'a>(line: &'a [u8], meddles: &mut Meddles) -> Option<ActText<'a>>
+    ensures { option_map (texts.act_in (meddles_of meddles.new)) result
+        ≡ prefixed_act_at line.now }
 {
-    let (meddles, line) = meddles_in(line)?;
+    let (read, line) = meddles_in(line)?;
+    *meddles = read;
     let (stop, line) = stop_in(line)?;
-    call_in(meddles, stop, line)
+    call_in(stop, line)
 }
 
 // A call or a command behind its meddles and its stop.
 #[tactic(auto, unfolding(crate::specs::Grammar::call_at))]
-fn call_in(meddles: Meddles, stop: Stop, line: &[u8]) -> Option<ActText<'_>>
-    ensures { option_map texts.act_in result ≡ call_at (meddles_of meddles) stop line.now }
+fn call_in(stop: Stop, line: &[u8]) -> Option<ActText<'_>>
+    ensures { (meddles : List Meddle)
+        → option_map (texts.act_in meddles) result ≡ call_at meddles stop line.now }
 {
     if is_text(line, b"checkpoint") {
-        return Some(ActText::Checkpoint { meddles, stop });
+        return Some(ActText::Checkpoint { stop });
     }
     if let Some(line) = after(b"ask ", line) {
-        return ask_in(meddles, stop, line);
+        return ask_in(stop, line);
     }
     let command = command_in(line)?;
-    Some(ActText::Moves {
-        meddles,
-        stop,
-        command,
-    })
+    Some(ActText::Moves { stop, command })
 }
 
 // An offer and a request behind `ask`.
 #[tactic(auto, unfolding(crate::specs::Grammar::ask_at))]
-fn ask_in(meddles: Meddles, stop: Stop, line: &[u8]) -> Option<ActText<'_>>
-    ensures { option_map texts.act_in result ≡ ask_at (meddles_of meddles) stop line.now }
+fn ask_in(stop: Stop, line: &[u8]) -> Option<ActText<'_>>
+    ensures { (meddles : List Meddle)
+        → option_map (texts.act_in meddles) result ≡ ask_at meddles stop line.now }
 {
     let (from, request) = offer_in(line)?;
     Some(ActText::Ask {
-        meddles,
         stop,
         from,
         request,

@@ -1,6 +1,7 @@
 //! Events of two sides as they lie in their lines.
 
 ghost use Rattle.std.specs.Prelude.{◌≡◌, IfOk};
+ghost use Rattle.mm_schedule.specs.Events.{meddles_of};
 ghost use Rattle.mm_transfer.specs.Events.{command_of, act_of, side_event_of};
 ghost use Rattle.mm_transfer.specs.Texts as texts;
 
@@ -19,16 +20,14 @@ pub enum CommandText<'a> {
     Accept { from: OfferText<'a> },
 }
 
-/// What happens on a side, as it lies in its line.
+/// What happens on a side, as it lies in its line, but for its meddles.
 pub enum ActText<'a> {
     Ask {
-        meddles: Meddles,
         stop: Stop,
         from: OfferText<'a>,
         request: &'a [u8],
     },
     Checkpoint {
-        meddles: Meddles,
         stop: Stop,
     },
     Power,
@@ -36,33 +35,36 @@ pub enum ActText<'a> {
         value: Digest,
     },
     Moves {
-        meddles: Meddles,
         stop: Stop,
         command: CommandText<'a>,
     },
 }
 
-/// An event as it lies in its line.
+/// An event as it lies in its line, but for its meddles.
 pub struct SideEventText<'a> {
     pub which: SideChoice,
     pub act: ActText<'a>,
 }
 
-/// The event with bytes of its own.
-pub fn owned(alloc: Global, event: SideEventText<'_>) -> Result<SideEvent, Memory>
-    ensures { IfOk result (λ own. side_event_of own ≡ texts.event_in event.entry) }
+/// The event with these meddles and bytes of its own.
+pub fn owned(
+    alloc: Global,
+    meddles: &Meddles,
+    event: SideEventText<'_>,
+) -> Result<SideEvent, Memory>
+    ensures { IfOk result
+        (λ own. side_event_of own ≡ texts.event_in (meddles_of meddles.now) event.entry) }
 {
     let SideEventText { which, act } = event;
-    let act = owned_act(alloc, act)?;
+    let act = owned_act(alloc, meddles, act)?;
     Ok(SideEvent { which, act })
 }
 
-fn owned_act(alloc: Global, act: ActText<'_>) -> Result<SideAct, Memory>
-    ensures { IfOk result (λ own. act_of own ≡ texts.act_in act.entry) }
+fn owned_act(alloc: Global, meddles: &Meddles, act: ActText<'_>) -> Result<SideAct, Memory>
+    ensures { IfOk result (λ own. act_of own ≡ texts.act_in (meddles_of meddles.now) act.entry) }
 {
     match act {
         ActText::Ask {
-            meddles,
             stop,
             from,
             request,
@@ -70,25 +72,22 @@ fn owned_act(alloc: Global, act: ActText<'_>) -> Result<SideAct, Memory>
             let offer = owned_offer(alloc, from)?;
             let request = Bytes::copy_of(alloc, request)?;
             Ok(SideAct::Plain(Event::Ask {
-                meddles,
+                meddles: *meddles,
                 stop,
                 offer,
                 request,
             }))
         }
-        ActText::Checkpoint { meddles, stop } => {
-            Ok(SideAct::Plain(Event::Checkpoint { meddles, stop }))
-        }
+        ActText::Checkpoint { stop } => Ok(SideAct::Plain(Event::Checkpoint {
+            meddles: *meddles,
+            stop,
+        })),
         ActText::Power => Ok(SideAct::Plain(Event::Power)),
         ActText::Extend { value } => Ok(SideAct::Plain(Event::Extend { value })),
-        ActText::Moves {
-            meddles,
-            stop,
-            command,
-        } => {
+        ActText::Moves { stop, command } => {
             let command = owned_command(alloc, command)?;
             Ok(SideAct::Moves {
-                meddles,
+                meddles: *meddles,
                 stop,
                 command,
             })

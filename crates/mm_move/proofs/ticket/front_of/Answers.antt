@@ -11,6 +11,5 @@ returns c =
     let head = c.copy_from_slice.ensures.after
     ∙ ap (λ (byte : ℕ). 0x4d ∷ 0x4d ∷ 0x54 ∷ 0x31 ∷ byte ∷ c.args.ticket.now.body.module ∷ []) variant in
     let summary = c.copy_from_slice-3.ensures.after ∙ ap (λ (digest : Digest). digest.bytes) c.summary_of.ensures in
-    let position = c.copy_from_slice-4.ensures.after ∙ c.bytes_of_u64.ensures in
-    let size = c.copy_from_slice-5.ensures.after ∙ c.bytes_of_u32.ensures in
-    λ j. head j ++ (c.copy_from_slice-2.ensures.after j ++ (summary j ++ (position j ++ size j)))
+    let counts = c.copy_from_slice-4.ensures.after ∙ c.counts_of.ensures in
+    λ j. head j ++ (c.copy_from_slice-2.ensures.after j ++ (summary j ++ counts j))

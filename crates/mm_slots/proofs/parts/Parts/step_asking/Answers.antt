@@ -19,8 +19,8 @@ returns-in-Ok-Over-clause-ok c =
 
 pub returns-in-Ok-Going-clause-ok : goal.returns-in-Ok-Going-clause-ok
 returns-in-Ok-Going-clause-ok c =
-    ask_goes c.args.self.now c.args.asking c.in-Ok-Going.call c.step.new.keys _ _ c.step.new.platform _ c.requires.fits
+    rw c.fly.ensures (ask_goes c.args.self.now c.args.asking c.in-Ok-Going.call c.step.new.keys _ _ c.step.new.platform _ c.requires.fits
     (record {
       steps = rw (c.in-Ok-Going.field-0-is, c.as_slice.ensures.value, c.as_slice-2.ensures.value) at c.in-Ok-Going.ensures.steps;
       room = rw c.in-Ok-Going.field-0-is at c.in-Ok-Going.ensures.room;
-    }) (search rules)
+    }) (search rules))

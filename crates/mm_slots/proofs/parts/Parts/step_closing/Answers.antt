@@ -10,11 +10,11 @@ returns-in-Ok-Over c =
 
 pub returns-in-Ok-Going : goal.returns-in-Ok-Going
 returns-in-Ok-Going c =
-    close_goes c.args.self.now c.args.closing c.in-Ok-Going.call c.step.new.keys _ _ c.step.new.platform _ c.requires.fits
+    rw c.fly.ensures (close_goes c.args.self.now c.args.closing c.in-Ok-Going.call c.step.new.keys _ _ c.step.new.platform _ c.requires.fits
     (record {
       steps = rw c.in-Ok-Going.field-0-is at c.in-Ok-Going.ensures.steps;
       room = rw c.in-Ok-Going.field-0-is at c.in-Ok-Going.ensures.room;
-    }) (search rules)
+    }) (search rules))
 
 pub unreachable-requires : goal.unreachable-requires
 unreachable-requires c =
