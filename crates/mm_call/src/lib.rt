@@ -17,7 +17,7 @@ mod whole;
 
 pub use answering::answer;
 pub use ended::{AskResult, refusal_of};
-pub use examining::examine;
+pub use examining::{admit, examine};
 pub use first::{Provisioned, provision_with};
 pub use laws::{
     basic_calls_agree, basic_checkpoints_agree, opt_calls_agree, opt_checkpoints_agree, opt_tied,

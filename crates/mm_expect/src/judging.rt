@@ -1,28 +1,14 @@
 //! What is found of an offer.
 
 ghost use Rattle.std.specs.Prelude.{◌≡◌};
-ghost use Rattle.mm_call.specs.Order.{check_of_verdict};
 
 use crate::chronicle::Chronicle;
 use mm_base::LAST_POSITION;
+use mm_call::admit;
 use mm_digest::Variant;
 use mm_model::{Refusal, Verdict};
 use mm_module::Batch;
 use mm_seal::Body;
-
-// Whether the batch is a repeat, by the verdict on an offer that is right, and by whether there are
-// positions left for it.
-fn admit(verdict: Verdict, fits: bool) -> Result<bool, Refusal>
-    ensures { result ≡ check_of_verdict verdict fits }
-{
-    match verdict {
-        Verdict::Lost => Err(Refusal::Lost),
-        Verdict::Stale => Err(Refusal::Stale),
-        Verdict::Fresh | Verdict::Again if !fits => Err(Refusal::Full),
-        Verdict::Fresh => Ok(false),
-        Verdict::Again => Ok(true),
-    }
-}
 
 impl Chronicle {
     ghost use Rattle.std.specs.Prelude.{◌≡◌, ◌≤◌, ℕ, List, false, IfOk};

@@ -2,8 +2,7 @@
 
 use mm_platform::StepFault;
 use mm_seal::Cell;
-use std::error::Error;
-use std::fmt;
+use thiserror::Error;
 
 /// What a checkpoint did.
 #[derive(Clone, Copy, Debug, PartialEq, Eq)]
@@ -15,40 +14,24 @@ pub enum Checkpointed {
 }
 
 /// Why a checkpoint was refused, in the order in which it looks for it, but for Device.
-#[derive(Clone, Copy, Debug, PartialEq, Eq)]
+#[derive(Clone, Copy, Debug, PartialEq, Eq, Error)]
 pub enum CheckpointRefusal {
     /// A step of the platform failed.
+    #[error("a step of the platform failed")]
     Device(StepFault),
     /// The cell is blank: 104 zero bytes.
+    #[error("the cell is blank")]
     Blank,
     /// The cell's bytes are neither blank nor a cell's.
+    #[error("the cell isn't spelled")]
     Cell,
     /// The cell is one of Basic, which has no segments.
+    #[error("the cell is one of Basic")]
     Kind,
     /// Power was lost inside the open segment.
+    #[error("power was lost inside an open segment")]
     Lost,
 }
-
-impl CheckpointRefusal {
-    // The reason in words.
-    fn reason(&self) -> &'static str {
-        match self {
-            CheckpointRefusal::Device(_) => "a step of the platform failed",
-            CheckpointRefusal::Blank => "the cell is blank",
-            CheckpointRefusal::Cell => "the cell isn't spelled",
-            CheckpointRefusal::Kind => "the cell is one of Basic",
-            CheckpointRefusal::Lost => "power was lost inside an open segment",
-        }
-    }
-}
-
-impl fmt::Display for CheckpointRefusal {
-    fn fmt<W: fmt::Write>(&self, f: &mut fmt::Formatter<W>) -> fmt::Result {
-        f.write_str(self.reason())
-    }
-}
-
-impl Error for CheckpointRefusal {}
 
 /// The segment of a cell.
 #[derive(Drop)]
