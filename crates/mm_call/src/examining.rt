@@ -42,8 +42,8 @@ pub fn examine<M: Module>(
     admit(verdict, fits)
 }
 
-/// Whether the batch is a repeat, by the verdict on an offer that is right, and by whether there are
-/// positions left for it. Takes no memory.
+/// Whether the batch is a repeat, by the verdict on an offer that is right, and by whether there
+/// are positions left for it. Takes no memory.
 pub fn admit(verdict: Verdict, fits: bool) -> Result<bool, Refusal>
     ensures answer { result ≡ check_of_verdict verdict fits }
     ensures fits { OnOk result (IsTrue fits) }
