@@ -62,6 +62,13 @@ impl Bytes {
         Ok(())
     }
 
+    /// Takes all bytes away, and keeps the memory.
+    pub fn clear(&mut self)
+        ensures { self.new ≡ [] }
+    {
+        self.items.clear();
+    }
+
     /// The bytes. Takes no memory.
     pub fn as_slice(&self) -> &[u8]
         ensures value { result.now ≡ self.now }

@@ -1,5 +1,6 @@
 pub mod Play
 pub mod Fronts
+pub mod PutReply
 pub mod StreamStanding
 pub mod PlaysInput
 pub mod LineTurn

@@ -61,13 +61,24 @@ impl<H: Heading<S> + Drop, S: PlayStage + Drop> Player for LinePlayer<H, S> {
     ghost lines_left = { remaining_lines H.heads S.plays };
 
     fn reply(&mut self, alloc: Global, line: &[u8]) -> Result<Bytes, ReplyFault> {
+        let mut reply = Bytes::new(alloc);
+        self.reply_into(alloc, line, &mut reply)?;
+        Ok(reply)
+    }
+
+    fn reply_into(
+        &mut self,
+        alloc: Global,
+        line: &[u8],
+        into: &mut Bytes,
+    ) -> Result<(), ReplyFault> {
         match &mut self.at {
-            CommandPhase::Events(progress) => progress.reply_to_line(alloc, line),
+            CommandPhase::Events(progress) => progress.put_reply(alloc, line, into),
             CommandPhase::Heading(heading) => {
                 if let Some(stage) = heading.take_line(alloc, line)? {
                     self.at = CommandPhase::Events(Progress::new(stage));
                 }
-                Ok(Bytes::new(alloc))
+                Ok(())
             }
         }
     }

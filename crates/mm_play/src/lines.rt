@@ -16,9 +16,36 @@ use mm_base::{
     write_all,
 };
 use std::alloc::Global;
+use std::marker::Model;
 
 /// Where so many bytes are pending they are sent, though more lines are at hand.
 const MANY_PENDING: usize = 65536;
+
+/// The replies that wait to be sent, and room for the next. Contracts see those that wait.
+#[derive(Drop)]
+struct Pending {
+    bytes: Bytes,
+    reply: Bytes,
+}
+
+impl Model for Pending {
+    ghost Value = { List ℕ };
+
+    ghost view = { λ it. it.bytes };
+}
+
+impl Pending {
+    ghost use Rattle.std.specs.Prelude.{◌≡◌, []};
+
+    fn new(alloc: Global) -> Pending
+        ensures { result ≡ [] }
+    {
+        Pending {
+            bytes: Bytes::new(alloc),
+            reply: Bytes::new(alloc),
+        }
+    }
+}
 
 /// Puts the player's reply to the line of this number behind what is pending.
 fn queue_reply<P: Player>(
@@ -26,14 +53,15 @@ fn queue_reply<P: Player>(
     number: u32,
     line: &[u8],
     player: &mut P,
-    pending: &mut Bytes,
+    pending: &mut Pending,
 ) -> Result<bool, ReplayFault>
     requires { length line.now ≤ longest_line }
     ensures { PlayerAnswers number (P.answer player.old line.now) player.new pending.old pending.new
         result }
 {
-    match player.reply(alloc, line) {
-        Ok(reply) => match pending.append(reply.as_slice()) {
+    pending.reply.clear();
+    match player.reply_into(alloc, line, &mut pending.reply) {
+        Ok(()) => match pending.bytes.append(pending.reply.as_slice()) {
             Ok(()) => Ok(true),
             Err(_) => Err(ReplayFault::Memory),
         },
@@ -49,12 +77,12 @@ fn end_input<P: Player>(
     alloc: Global,
     number: u32,
     player: &P,
-    pending: &mut Bytes,
+    pending: &mut Pending,
 ) -> Result<bool, ReplayFault>
     ensures { EndsInput number (P.closing player.now) pending.old pending.new result }
 {
     match player.last_lines(alloc) {
-        Ok(Some(last)) => match pending.append(last.as_slice()) {
+        Ok(Some(last)) => match pending.bytes.append(last.as_slice()) {
             Ok(()) => Ok(false),
             Err(_) => Err(ReplayFault::Memory),
         },
@@ -72,7 +100,7 @@ fn read_and_reply<P: Player, S: Source>(
     reader: &mut LineReader,
     player: &mut P,
     input: &mut S,
-    pending: &mut Bytes,
+    pending: &mut Pending,
 ) -> Result<bool, ReplayFault>
     requires { IsUnbroken reader.old → pending.old ≡ [] }
     ensures advances { TurnAdvances P.answer P.closing number player.old player.new
@@ -91,21 +119,20 @@ fn read_and_reply<P: Player, S: Source>(
 }
 
 /// Sends what is pending. Nothing is pending then, nor after `WriteFault`.
-fn send<K: Sink>(alloc: Global, pending: &mut Bytes, out: &mut K) -> Result<(), WriteFault>
+fn send<K: Sink>(pending: &mut Pending, out: &mut K) -> Result<(), WriteFault>
     ensures none { pending.new ≡ [] }
     ensures sent { SinkSends (K.received out.old) (K.received out.new) pending.old result }
     ensures counted { CountsFaults (K.faults out.old) (K.faults out.new) result }
 {
-    let sent = write_all(out, pending.as_slice());
-    *pending = Bytes::new(alloc);
+    let sent = write_all(out, pending.bytes.as_slice());
+    pending.bytes.clear();
     sent
 }
 
 /// Sends what is pending where no whole line is held, or where much is pending.
 fn send_due<K: Sink>(
-    alloc: Global,
     reader: &mut LineReader,
-    pending: &mut Bytes,
+    pending: &mut Pending,
     out: &mut K,
 ) -> Result<(), WriteFault>
     ensures same { reader.new ≡ reader.old }
@@ -115,17 +142,16 @@ fn send_due<K: Sink>(
     ensures counted { CountsFaults (K.faults out.old) (K.faults out.new) result }
 {
     let is_held = reader.has_line();
-    if is_held && pending.as_slice().len() < MANY_PENDING {
+    if is_held && pending.bytes.as_slice().len() < MANY_PENDING {
         return Ok(());
     }
-    send(alloc, pending, out)
+    send(pending, out)
 }
 
 /// Sends what is pending, and hands on what came.
 fn send_then<K: Sink>(
-    alloc: Global,
     came: Result<bool, ReplayFault>,
-    pending: &mut Bytes,
+    pending: &mut Pending,
     out: &mut K,
 ) -> Result<bool, ReplayFault>
     requires { is_write_fault came ≡ false }
@@ -134,7 +160,7 @@ fn send_then<K: Sink>(
         pending.old result }
     ensures wrote { IsBlamed (is_write_fault result) (K.faults out.old) (K.faults out.new) }
 {
-    match send(alloc, pending, out) {
+    match send(pending, out) {
         Ok(()) => came,
         Err(_) => Err(ReplayFault::WriteFault),
     }
@@ -148,7 +174,7 @@ fn play_next<P: Player, S: Source, K: Sink>(
     reader: &mut LineReader,
     player: &mut P,
     input: &mut S,
-    pending: &mut Bytes,
+    pending: &mut Pending,
     out: &mut K,
 ) -> Result<bool, ReplayFault>
     ensures turns { PlaysNext P.answer P.closing number player.old player.new (S.left input.old)
@@ -157,16 +183,16 @@ fn play_next<P: Player, S: Source, K: Sink>(
     ensures read { IsBlamed (is_read_fault result) (S.faults input.old) (S.faults input.new) }
     ensures wrote { IsBlamed (is_write_fault result) (K.faults out.old) (K.faults out.new) }
 {
-    match send_due(alloc, reader, pending, out) {
+    match send_due(reader, pending, out) {
         Ok(()) => {}
         Err(_) => return Err(ReplayFault::WriteFault),
     }
     match read_and_reply(alloc, number, reader, player, input, pending) {
         Ok(true) => Ok(true),
-        Ok(false) => send_then(alloc, Ok(false), pending, out),
+        Ok(false) => send_then(Ok(false), pending, out),
         Err(fault) => match fault {
             ReplayFault::ReadFault => Err(ReplayFault::ReadFault),
-            _ => send_then(alloc, Err(fault), pending, out),
+            _ => send_then(Err(fault), pending, out),
         },
     }
 }
@@ -188,7 +214,7 @@ pub fn play<P: Player, S: Source, K: Sink>(
     ensures wrote { IsBlamed (is_write_fault result) (K.faults out.old) (K.faults out.new) }
 {
     let mut reader = LineReader::new(alloc)?;
-    let mut pending = Bytes::new(alloc);
+    let mut pending = Pending::new(alloc);
     let mut number: u32 = 1;
     'lines: while play_next(alloc, number, &mut reader, player, input, &mut pending, out)? {
         number += 1;

@@ -1,9 +1,11 @@
 //! Who answers the lines of an input.
 
-ghost use Rattle.std.specs.Prelude.{◌≡◌, ◌≤◌, ◌<◌, ◌^◌, ℕ, List, Option, Result, Ok, length, IfOk};
+ghost use Rattle.std.specs.Prelude.{◌≡◌, ◌≤◌, ◌<◌, ◌^◌, ◌++◌, ℕ, List, Option, Result, Ok, length, IfOk, IfErr, OnOk};
 ghost use Rattle.mm_base.specs.Limits.{longest_line};
 ghost use Rattle.mm_play.specs.declared.player.LineRefusal.{LineRefusal};
+ghost use Rattle.mm_play.specs.declared.player.ReplyFault.TheVariants.{Memory as memory};
 ghost use Rattle.mm_play.specs.Fronts.{GivesReply};
+ghost use Rattle.mm_play.specs.PutReply.{PutsReply};
 
 use mm_base::{Bytes, Memory};
 use std::alloc::Global;
@@ -42,6 +44,19 @@ pub trait Player {
         requires { length line.now ≤ longest_line }
         ensures { GivesReply (answer self.old line.now) self.new result };
 
+    /// The same, with the reply put at the end of these bytes. After a fault nothing is said of
+    /// what stands there.
+    fn reply_into(&mut self, alloc: Global, line: &[u8], into: &mut Bytes) -> Result<(), ReplyFault>
+        requires { length line.now ≤ longest_line }
+        ensures { PutsReply into.old into.new (GivesReply (answer self.old line.now) self.new)
+            result }
+    {
+        match self.reply(alloc, line) {
+            Ok(reply) => put(&reply, into),
+            Err(fault) => Err(fault),
+        }
+    }
+
     /// The last lines. None where the input may not end here.
     fn last_lines(&self, alloc: Global) -> Result<Option<Bytes>, Memory>
         ensures { IfOk result (λ last. last ≡ closing self.now) };
@@ -52,4 +67,15 @@ pub trait Player {
 
     /// It ends.
     ghost few: { (it : Self) → lines_left it < 2 ^ 31 };
+}
+
+// Puts a reply at the end of these bytes.
+pub(crate) fn put(reply: &Bytes, into: &mut Bytes) -> Result<(), ReplyFault>
+    ensures put { OnOk result (into.new ≡ into.old ++ reply.now) }
+    ensures wants { IfErr result (λ fault. fault ≡ memory) }
+{
+    match into.append(reply.as_slice()) {
+        Ok(()) => Ok(()),
+        Err(_) => Err(ReplyFault::Memory),
+    }
 }

@@ -3,6 +3,7 @@
 ghost use Rattle.std.specs.Prelude.{◌≡◌, ◌+◌, ◌≤◌, ◌<◌, ℕ, List, false, length};
 ghost use Rattle.mm_base.specs.Limits.{longest_line};
 ghost use Rattle.mm_play.specs.KeptBytes.{most_kept_bytes};
+ghost use Rattle.mm_play.specs.PutReply.{PutsReply};
 
 use crate::player::{LineRefusal, ReplyFault};
 use crate::stage::PlayStage;
@@ -63,23 +64,28 @@ impl<S: PlayStage + Drop> Progress<S> {
         }
     }
 
-    /// The reply to an event line, as text. `LineRefusal::Much` comes exactly where it is event
+    /// Puts the reply to an event line at the end, as text. `LineRefusal::Much` comes exactly where it is event
     /// 20,001, or where the event lines and what is kept have more than 268,435,456 bytes; it isn't
     /// played then. After a refusal nothing has changed. After want of memory the line isn't
     /// counted, and the stage is as `PlayStage::play` leaves it then.
-    pub fn reply_to_line(&mut self, alloc: Global, line: &[u8]) -> Result<Bytes, ReplyFault>
+    pub fn put_reply(
+        &mut self,
+        alloc: Global,
+        line: &[u8],
+        into: &mut Bytes,
+    ) -> Result<(), ReplyFault>
         requires { length line.now ≤ longest_line }
-        ensures { RepliesToLine S.plays S.wants line.now (play_state_of self.old)
-            (play_state_of self.new)
-            result }
+        ensures { PutsReply into.old into.new
+            (RepliesToLine S.plays S.wants line.now (play_state_of self.old)
+            (play_state_of self.new)) result }
     {
         if self.is_full(line) {
             return Err(self.refusal(alloc, line));
         }
-        match self.stage.play(alloc, line) {
-            Ok(reply) => {
+        match self.stage.play_into(alloc, line, into) {
+            Ok(()) => {
                 self.count_line(line);
-                Ok(reply)
+                Ok(())
             }
             Err(fault) => Err(fault),
         }

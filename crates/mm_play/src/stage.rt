@@ -4,9 +4,10 @@ ghost use Rattle.std.specs.Prelude.{◌≡◌, ◌+◌, ◌≤◌, ◌<◌, ◌^
 ghost use Rattle.mm_base.specs.Limits.{longest_line, most_events};
 ghost use Rattle.mm_play.specs.HeadingStep.{More};
 ghost use Rattle.mm_play.specs.KeptBytes.{most_kept_bytes};
+ghost use Rattle.mm_play.specs.PutReply.{PutsReply};
 ghost use Rattle.mm_play.specs.Stage.{EventStage, HeadStage, StageAnswersEvent, TakesHead, number_in_64_bits};
 
-use crate::player::ReplyFault;
+use crate::player::{ReplyFault, put};
 use mm_base::{Bytes, Memory};
 use std::alloc::Global;
 
@@ -41,6 +42,22 @@ pub trait PlayStage {
         ensures { StageAnswersEvent (wants self.old line.now self.new)
             (plays.answer self.old line.now)
             self.old self.new result };
+
+    /// The same, with the reply put at the end of these bytes. After a fault nothing is said of
+    /// what stands there.
+    fn play_into(&mut self, alloc: Global, line: &[u8], into: &mut Bytes) -> Result<(), ReplyFault>
+        requires short { length line.now ≤ longest_line }
+        requires few { plays.events self.old < most_events }
+        requires room { plays.kept self.old ≤ most_kept_bytes }
+        ensures { PutsReply into.old into.new
+            (StageAnswersEvent (wants self.old line.now self.new) (plays.answer self.old line.now)
+            self.old self.new) result }
+    {
+        match self.play(alloc, line) {
+            Ok(reply) => put(&reply, into),
+            Err(fault) => Err(fault),
+        }
+    }
 
     /// What is written last.
     fn last_lines(&self, alloc: Global) -> Result<Bytes, Memory>

@@ -12,9 +12,6 @@ use mm_world::{EventView, World, line_view, owned_view};
 use std::alloc::Global;
 use std::marker::Model;
 
-/// The bytes that are reserved for a reply: most have no more.
-const USUAL_REPLY: usize = 48;
-
 /// A replay among its events: a world, and how many events it followed.
 #[derive(Drop)]
 pub struct ScheduleReplay {
@@ -37,6 +34,7 @@ impl ScheduleReplay {
     ghost use Rattle.mm_replay.specs.Schedule.{replay_state_after, first_replay_state, outcome_of, replay_steps};
     ghost use Rattle.mm_schedule.specs.Events.{event_of};
     ghost use Rattle.mm_schedule.specs.Replies.{IsPrintable, end_line};
+    ghost use Rattle.mm_play.specs.PutReply.{PutsReply};
     ghost use Rattle.mm_play.specs.Stage.{StageAnswersEvent, answer_by};
     ghost use Rattle.mm_replay.specs.ReplayEvents.{ReplayLacksMemory};
     ghost use Rattle.mm_world.specs.Views.{event_of_view};
@@ -80,24 +78,22 @@ impl ScheduleReplay {
         Ok(reply)
     }
 
-    // The reply to an event where it lies, as text.
-    fn written_reply(&mut self, alloc: Global, event: EventView<'_>) -> Result<Bytes, ReplyFault>
+    // Plays an event where it lies, and puts the reply at the end, as text.
+    #[inline(always)]
+    fn put_reply_to(&mut self, event: EventView<'_>, into: &mut Bytes) -> Result<(), ReplyFault>
         requires { self.old.events < most_events }
-        ensures { StageAnswersEvent
+        ensures { PutsReply into.old into.new
+            (StageAnswersEvent
             (ReplayLacksMemory self.old (event_of_view event.entry) self.new)
             (answer_by replay_steps self.old (Some (event_of_view event.entry))) self.old
-            self.new result }
+            self.new) result }
     {
         let reply = match self.follow(event) {
             Ok(reply) => reply,
             Err(_) => return Err(ReplyFault::Memory),
         };
-        let mut written = match Bytes::with_capacity(alloc, USUAL_REPLY) {
-            Ok(written) => written,
-            Err(_) => return Err(ReplyFault::Memory),
-        };
-        match put_reply(&reply, &mut written) {
-            Ok(()) => Ok(written),
+        match put_reply(&reply, into) {
+            Ok(()) => Ok(()),
             Err(_) => Err(ReplyFault::Memory),
         }
     }
@@ -146,9 +142,20 @@ impl PlayStage for ScheduleReplay {
     }
 
     fn play(&mut self, alloc: Global, line: &[u8]) -> Result<Bytes, ReplyFault> {
+        let mut reply = Bytes::new(alloc);
+        self.play_into(alloc, line, &mut reply)?;
+        Ok(reply)
+    }
+
+    fn play_into(
+        &mut self,
+        _alloc: Global,
+        line: &[u8],
+        into: &mut Bytes,
+    ) -> Result<(), ReplyFault> {
         let mut meddles = Meddles::none();
         match event_in(line, &mut meddles) {
-            Some(text) => self.written_reply(alloc, line_view(&meddles, text)),
+            Some(text) => self.put_reply_to(line_view(&meddles, text), into),
             None => Err(ReplyFault::Refused(LineRefusal::Bad)),
         }
     }

@@ -32,6 +32,7 @@ impl Meddles {
     ghost use Rattle.mm_schedule.specs.Events.{meddles_of};
 
     /// None.
+    #[inline(always)]
     pub fn none() -> Meddles
         ensures { meddles_of result ≡ [] }
     {
