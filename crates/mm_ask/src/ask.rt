@@ -8,7 +8,7 @@ use mm_base::CELL_LENGTH;
 use mm_basic::BasicAsk;
 use mm_call::{AskResult, KeptKey};
 use mm_digest::{Digest, Variant};
-use mm_machine::{OpCall, OpFinding, Operation, Sight, finish};
+use mm_machine::{OpFinding, Operation, Sight, run};
 use mm_model::{BatchAnswer, Refusal};
 use mm_module::{Batch, Module};
 use mm_opt::OptAsk;
@@ -125,6 +125,6 @@ impl<M: Module> Ask<'_, M> {
             (P.standing platform.old) (P.standing platform.new) self.now.offer.now
             (batch_of self.now.batch) result }
     {
-        AskResult::of(finish(self, OpCall::begin(), platform, keys))
+        AskResult::of(run(self, platform, keys))
     }
 }

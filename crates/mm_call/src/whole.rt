@@ -12,7 +12,7 @@ ghost use Rattle.mm_call.specs.Machine.{CallFinishes, CallReads, IsMade, LeavesR
 ghost use Rattle.mm_call.specs.Refusals.{result_with_fault};
 
 use crate::ended::{AskResult, refusal_of};
-use mm_machine::{OpCall, OpFinding, Operation, finish, finish_change, read};
+use mm_machine::{OpFinding, Operation, finish_change, read, run};
 use mm_model::{BatchAnswer, Refusal};
 use mm_platform::{Platform, StepFault};
 use mm_seal::KeptKey;
@@ -114,5 +114,5 @@ pub fn finish_call<O: Operation<Answer = BatchAnswer, Refusal = Refusal>, P: Pla
     ensures { CallFinishes (O.asked op.now) Begun (P.standing platform.old)
         (P.standing platform.new) result }
 {
-    AskResult::of(finish(op, OpCall::begin(), platform, keys))
+    AskResult::of(run(op, platform, keys))
 }

@@ -54,6 +54,12 @@ abbrev pub RoomIsMadeFor : {A R : Type 0} → Result (OpFinding A) (Halt R) → 
 RoomIsMadeFor (Err why) old new given = (new ≡ old) × (given ≡ Err why)
 RoomIsMadeFor (Ok found) old new given = RoomIsMadeIf (has_extension found) found old new given
 
+-- what is given once it was seen to room for what was found
+abbrev pub found_with_room : {A R : Type 0} → OpFinding A → Result Unit (Halt R)
+    → Result (OpFinding A) (Halt R)
+found_with_room found (Ok _) = Ok found
+found_with_room found (Err why) = Err why
+
 -- What was found, and then room.
 pub record FindsRoom {A R : Type 0} (by : Standing → Result (OpFinding A) (Halt R) → Type 0)
     (new : Standing) (given : Result (OpFinding A) (Halt R)) : Type 0 where

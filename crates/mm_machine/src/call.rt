@@ -6,7 +6,7 @@ ghost use Rattle.mm_machine.specs.OpSteps.{MayGoOn, StepMayGoOn, OpSteps, FirstS
 
 use crate::change::Change;
 use crate::operation::{OpFinding, Operation, ReadyChange, Sight};
-use crate::reading::{Halt, look, make_room, weigh_with_room};
+use crate::reading::{Halt, look, weigh_with_room, with_room};
 use mm_platform::{Platform, StepFault};
 use mm_seal::{Cell, KeptKey};
 use std::marker::Model;
@@ -176,7 +176,7 @@ fn advance_first<O: Operation, P: Platform>(
     match look(op, platform, keys) {
         Err(halt) => StepResult::Over(OpResult::by(halt)),
         Ok(Sight::Cell(cell)) => StepResult::at(OpStage::Seen(cell)),
-        Ok(Sight::Found(found)) => StepResult::found(make_room(found, platform)),
+        Ok(Sight::Found(found)) => StepResult::found(with_room(found, platform)),
     }
 }
 

@@ -1,18 +1,19 @@
 //! What is left of a call, to its end.
 
-ghost use Rattle.std.specs.Prelude.{◌≡◌, ◌≤◌, ◌∷◌, [], None, Some};
+ghost use Rattle.std.specs.Prelude.{◌≡◌, ◌≤◌, ◌∷◌, [], None, Some, Ok};
 ghost use Rattle.mm_platform.specs.Steps.{ExtendRegister, ResetRegister, WriteCell};
 ghost use Rattle.mm_machine.specs.Acts.{MayChange, remaining_acts};
-ghost use Rattle.mm_machine.specs.OpEnds.{ActsEndBy, FindingEnds, OpEnds, ending_at_last};
-ghost use Rattle.mm_machine.specs.OpReads.{LeavesRoom};
+ghost use Rattle.mm_machine.specs.OpEnds.{ActsEndBy, FindsAndEnds, OpEnds, ending_at_last};
+ghost use Rattle.mm_machine.specs.OpReads.{RoomIsMadeFor};
 ghost use Rattle.mm_machine.specs.OpSteps.{MayGoOn};
+ghost use Rattle.mm_machine.specs.declared.call.OpStage.TheVariants.{Begun, Seen};
 
 use crate::call::{OpCall, OpResult, OpStage, StepResult, advance};
 use crate::change::{Change, SegmentOpening};
-use crate::operation::{OpFinding, Operation, ReadyChange};
-use crate::reading::{Halt, read, weigh_with_room};
+use crate::operation::{OpFinding, Operation, ReadyChange, Sight};
+use crate::reading::{look, make_room, weigh};
 use mm_platform::{Platform, StepFault};
-use mm_seal::KeptKey;
+use mm_seal::{Cell, KeptKey};
 
 // How a call ended at its last step.
 #[inline(always)]
@@ -93,21 +94,56 @@ pub fn finish_change<A: Drop, R, P: Platform>(
     }
 }
 
-// What is left of a call that found this.
+// What is left of a call that found this: room is made for it, and its steps follow.
 #[inline(always)]
 fn finish_found<O: Operation, P: Platform>(
     op: &O,
-    found: Result<OpFinding<O::Answer>, Halt<O::Refusal>>,
+    found: OpFinding<O::Answer>,
     platform: &mut P,
 ) -> OpResult<O::Answer, O::Refusal>
-    requires { LeavesRoom found (P.standing platform.old) }
-    ensures { FindingEnds (O.asked op.now) found (P.standing platform.old) (P.standing platform.new)
+    ensures { FindsAndEnds (O.asked op.now) (RoomIsMadeFor (Ok found) (P.standing platform.old))
+        (P.standing platform.new) result }
+{
+    match make_room(&found, platform) {
+        Err(halt) => OpResult::by(halt),
+        Ok(()) => match found {
+            OpFinding::Repeat(answer) => OpResult::Answered(answer),
+            OpFinding::Change(ready) => finish_change(op.position(&ready.answer), ready, platform),
+        },
+    }
+}
+
+// What is left of a call that saw this cell.
+#[inline(always)]
+fn finish_seen<O: Operation, P: Platform>(
+    op: &O,
+    cell: &Cell,
+    platform: &mut P,
+    keys: &mut KeptKey,
+) -> OpResult<O::Answer, O::Refusal>
+    ensures { OpEnds (O.asked op.now) (Seen cell.now) (P.standing platform.old)
+        (P.standing platform.new) result }
+{
+    match weigh(op, cell, platform, keys) {
+        Err(halt) => OpResult::by(halt),
+        Ok(found) => finish_found(op, found, platform),
+    }
+}
+
+/// A whole call: what `finish` does with one that stands before its first step.
+#[inline(always)]
+pub fn run<O: Operation, P: Platform>(
+    op: &O,
+    platform: &mut P,
+    keys: &mut KeptKey,
+) -> OpResult<O::Answer, O::Refusal>
+    ensures { OpEnds (O.asked op.now) Begun (P.standing platform.old) (P.standing platform.new)
         result }
 {
-    match found {
+    match look(op, platform, keys) {
         Err(halt) => OpResult::by(halt),
-        Ok(OpFinding::Repeat(answer)) => OpResult::Answered(answer),
-        Ok(OpFinding::Change(ready)) => finish_change(op.position(&ready.answer), ready, platform),
+        Ok(Sight::Found(found)) => finish_found(op, found, platform),
+        Ok(Sight::Cell(cell)) => finish_seen(op, &cell, platform, keys),
     }
 }
 
@@ -125,14 +161,8 @@ pub fn finish<O: Operation, P: Platform>(
         result }
 {
     match call.into_stage() {
-        OpStage::Begun => {
-            let found = read(op, platform, keys);
-            finish_found(op, found, platform)
-        }
-        OpStage::Seen(cell) => {
-            let found = weigh_with_room(op, &cell, platform, keys);
-            finish_found(op, found, platform)
-        }
+        OpStage::Begun => run(op, platform, keys),
+        OpStage::Seen(cell) => finish_seen(op, &cell, platform, keys),
         OpStage::Changing(ready) => finish_change(op.position(&ready.answer), ready, platform),
     }
 }

@@ -12,6 +12,6 @@ mod reading;
 
 pub use call::{OpCall, OpResult, OpStage, StepResult, advance};
 pub use change::{Change, SegmentOpening};
-pub use finishing::{advance_and_finish, finish, finish_change};
+pub use finishing::{advance_and_finish, finish, finish_change, run};
 pub use operation::{OpFinding, Operation, ReadyChange, Sight};
 pub use reading::{Halt, read};

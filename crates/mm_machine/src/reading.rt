@@ -1,7 +1,7 @@
 //! The steps that read, and what they come to.
 
 ghost use Rattle.std.specs.Prelude.{◌≡◌};
-ghost use Rattle.mm_machine.specs.OpReads.{SightFinds, FindsRoom, LeavesRoom, OpLooks, OpReads, RoomIsMadeFor, OpWeighs, has_extension};
+ghost use Rattle.mm_machine.specs.OpReads.{SightFinds, FindsRoom, LeavesRoom, OpLooks, OpReads, RoomIsMadeFor, OpWeighs, found_with_room, has_extension};
 
 use crate::operation::{OpFinding, Operation, Sight};
 use mm_base::CELL_LENGTH;
@@ -49,9 +49,9 @@ pub(crate) fn look<O: Operation, P: Platform>(
     }
 }
 
-// The second step: reads the register.
+/// The second step: reads the register.
 #[inline(always)]
-fn weigh<O: Operation, P: Platform>(
+pub(crate) fn weigh<O: Operation, P: Platform>(
     op: &O,
     cell: &Cell,
     platform: &mut P,
@@ -69,9 +69,28 @@ fn weigh<O: Operation, P: Platform>(
     }
 }
 
-/// Makes room for the own extension that is to come, where one is.
+/// Makes room for the own extension that is to come, where one is. Lacks where memory is wanting.
 #[inline(always)]
 pub(crate) fn make_room<A: Drop, R, P: Platform>(
+    found: &OpFinding<A>,
+    platform: &mut P,
+) -> Result<(), Halt<R>>
+    ensures rooms { RoomIsMadeFor (Ok found.now) (P.standing platform.old)
+        (P.standing platform.new) (found_with_room found.now result) }
+    ensures room { LeavesRoom (found_with_room found.now result) (P.standing platform.new) }
+{
+    if !extends(found) {
+        return Ok(());
+    }
+    match platform.reg_ready() {
+        Ok(()) => Ok(()),
+        Err(_) => Err(Halt::Lacks),
+    }
+}
+
+// What was found, with room for it.
+#[inline(always)]
+pub(crate) fn with_room<A: Drop, R, P: Platform>(
     found: OpFinding<A>,
     platform: &mut P,
 ) -> Result<OpFinding<A>, Halt<R>>
@@ -79,12 +98,9 @@ pub(crate) fn make_room<A: Drop, R, P: Platform>(
         (P.standing platform.new) result }
     ensures room { LeavesRoom result (P.standing platform.new) }
 {
-    if !extends(&found) {
-        return Ok(found);
-    }
-    match platform.reg_ready() {
+    match make_room(&found, platform) {
         Ok(()) => Ok(found),
-        Err(_) => Err(Halt::Lacks),
+        Err(halt) => Err(halt),
     }
 }
 
@@ -101,7 +117,7 @@ pub(crate) fn weigh_with_room<O: Operation, P: Platform>(
     ensures room { LeavesRoom result (P.standing platform.new) }
 {
     match weigh(op, cell, platform, keys) {
-        Ok(found) => make_room(found, platform),
+        Ok(found) => with_room(found, platform),
         Err(halt) => Err(halt),
     }
 }
@@ -119,7 +135,7 @@ pub fn read<O: Operation, P: Platform>(
 {
     match look(op, platform, keys) {
         Err(halt) => Err(halt),
-        Ok(Sight::Found(found)) => make_room(found, platform),
+        Ok(Sight::Found(found)) => with_room(found, platform),
         Ok(Sight::Cell(cell)) => weigh_with_room(op, &cell, platform, keys),
     }
 }

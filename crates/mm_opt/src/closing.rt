@@ -9,7 +9,7 @@ ghost use Rattle.mm_opt.specs.ClosingOperation.{result_of_end};
 use crate::close::OptCheckpoint;
 use crate::segment::{CheckpointRefusal, Checkpointed};
 use mm_call::Turn;
-use mm_machine::{OpCall, OpResult, Operation, StepResult, advance, finish};
+use mm_machine::{OpCall, OpResult, Operation, StepResult, advance, run};
 use mm_platform::Platform;
 use mm_seal::KeptKey;
 use std::marker::Model;
@@ -85,12 +85,7 @@ fn turn_of(step: StepResult<Checkpointed, CheckpointRefusal>) -> CheckpointTurn
 pub fn checkpoint<P: Platform>(platform: &mut P) -> Result<Checkpointed, CheckpointRefusal>
     ensures { CheckpointPromise (P.standing platform.old) (P.standing platform.new) result }
 {
-    closing_result(finish(
-        &OptCheckpoint,
-        OpCall::begin(),
-        platform,
-        &mut KeptKey::new(),
-    ))
+    closing_result(run(&OptCheckpoint, platform, &mut KeptKey::new()))
 }
 
 /// What is told of how the machine ended. It lacks no memory, as a checkpoint extends nothing.

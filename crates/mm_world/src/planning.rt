@@ -9,7 +9,7 @@ use crate::call::{CallReport, came_to, closes, settle, told_closing};
 use mm_ask::Ask;
 use mm_base::Memory;
 use mm_call::KeptKey;
-use mm_machine::{OpCall, OpResult, Operation, finish};
+use mm_machine::{OpResult, Operation, run};
 use mm_model::{BatchAnswer, Refusal};
 use mm_module::Module;
 use mm_opt::{CheckpointRefusal, Checkpointed, OptCheckpoint, closing_result};
@@ -120,7 +120,7 @@ pub fn planned<O: CallTeller>(
     match platform.plan(course.stop, course.meddles) {
         Err(memory) => Err(memory),
         Ok(()) => {
-            let ended = finish(op, OpCall::begin(), platform, keys);
+            let ended = run(op, platform, keys);
             settled(op, platform, course.stop, ended)
         }
     }
