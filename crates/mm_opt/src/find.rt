@@ -15,7 +15,7 @@ ghost use Rattle.mm_call.specs.Refusals.{IsOrMemory, fault_in};
 use crate::operation::OptAsk;
 use crate::verdicts::{has_lost_power, verdict};
 use mm_base::CELL_LENGTH;
-use mm_call::{KeptKey, answer, examine};
+use mm_call::{KeptKey, admit_batch, answer, vet};
 use mm_digest::{Digest, Variant, extended, zero};
 use mm_machine::{Change, OpFinding, ReadyChange, SegmentOpening};
 use mm_model::{BatchAnswer, Refusal, Verdict, guard, normal};
@@ -76,10 +76,11 @@ fn weigh<M: Module>(
         (Ok offered.now) (batch_of ask.now.batch)) result }
 {
     let body = offered.body();
+    let key = keys.under(&cell.key);
+    vet(ask.module, key, offered)?;
     let value = guard(&cell.barrier, normal(ask.batch));
     let verdict = verdict_on(cell, register, &body.place, &value);
-    let key = keys.under(&cell.key);
-    let again = examine(ask.module, key, offered, ask.batch, verdict)?;
+    let again = admit_batch(offered, ask.batch, verdict)?;
     let place = place_after(cell, register, &value, again);
     match answer(ask.alloc, ask.module, key, &body, place, ask.batch, again) {
         Err(_) => Err(Refusal::Memory),

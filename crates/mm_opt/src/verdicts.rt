@@ -1,6 +1,6 @@
 //! The verdict on an offered place, by digests.
 
-ghost use Rattle.std.specs.Prelude.{◌≡◌};
+ghost use Rattle.std.specs.Prelude.{◌≡◌, false};
 ghost use Rattle.std.specs.List.{list_any};
 ghost use Rattle.std.specs.Str.{bytes_eq};
 ghost use Rattle.mm_digest.specs.Messages.{zero_bytes};
@@ -49,14 +49,16 @@ pub fn is_zero(digest: &Digest) -> bool
     *digest == zero()
 }
 
-// Whether a form of the place fits as fresh.
+// Whether a form of the place fits as fresh. The place that a closed segment led to is at an
+// anchor, where none is open.
 fn is_fresh(cell: &Cell, register: &Digest, anchor: &Digest, extension: &Digest) -> bool
+    requires { has_lost_power cell.now register.now.bytes ≡ false }
     ensures { result ≡ list_any
         (is_fresh_form cell.now.flag cell.now.summary.bytes register.now.bytes)
         (forms_of anchor.now.bytes extension.now.bytes) }
 {
     fits_fresh(cell, register, anchor, extension)
-        || !is_zero(extension) && fits_fresh(cell, register, &anchored(anchor, extension), &zero())
+        || !cell.flag && !is_zero(extension) && anchored(anchor, extension) == cell.summary
 }
 
 // Whether a form of the place fits as a repeat.
@@ -101,9 +103,8 @@ fn fits_again(
     ensures { result ≡ is_repeat_form cell.now.flag cell.now.summary.bytes register.now.bytes
         value.now.bytes (point anchor.now.bytes extension.now.bytes) }
 {
-    let end = extended(extension, value);
-    if !cell.flag {
-        return anchored(anchor, &end) == cell.summary;
+    if cell.flag {
+        return *anchor == cell.summary && extended(extension, value) == *register;
     }
-    *anchor == cell.summary && end == *register
+    anchored(anchor, &extended(extension, value)) == cell.summary
 }
