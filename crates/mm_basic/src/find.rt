@@ -5,7 +5,7 @@ ghost use Rattle.std.specs.Str.{bytes_eq};
 ghost use Rattle.mm_base.specs.Limits.{last_position};
 ghost use Rattle.mm_digest.specs.declared.variant.Variant.TheVariants.{Basic};
 ghost use Rattle.mm_module.specs.Batches.{batch_of};
-ghost use Rattle.mm_seal.specs.Cell.{FitsVariant};
+ghost use Rattle.mm_seal.specs.Cell.{SpellsCell};
 ghost use Rattle.mm_seal.specs.Snapshot.{variant_of};
 ghost use Rattle.mm_model.specs.Verdicts.{verdict_by};
 ghost use Rattle.mm_basic.specs.BasicSight.{IsCellOf, Both};
@@ -16,12 +16,12 @@ ghost use Rattle.mm_call.specs.Refusals.{IsOrMemory, fault_in};
 
 use crate::operation::BasicAsk;
 use mm_base::CELL_LENGTH;
-use mm_call::{KeptKey, answer, examine};
+use mm_call::{KeptKey, admit_batch, answer, link_under, vet};
 use mm_digest::{Digest, Variant};
 use mm_machine::{Change, OpFinding, ReadyChange};
-use mm_model::{BatchAnswer, Refusal, Verdict, link, normal};
+use mm_model::{BatchAnswer, Refusal, Verdict, normal};
 use mm_module::Module;
-use mm_seal::{Cell, CellFault, Offered, PartsFault, Place, cell_bytes, parts, read_cell};
+use mm_seal::{Cell, CellFault, Offered, PartsFault, Place, parts, read_cell, with_summary};
 
 /// What is found in the cell's bytes and the offered ones, in the order of the refusals.
 #[inline(always)]
@@ -46,7 +46,7 @@ pub fn find<M: Module>(
     match parts(ask.offer, Variant::Basic, id) {
         Err(PartsFault::Form) => Err(Refusal::Form),
         Err(PartsFault::Kind) => Err(Refusal::Kind),
-        Ok(offered) => weigh(ask, &cell, &offered, keys),
+        Ok(offered) => weigh(ask, bytes, &cell, &offered, keys),
     }
 }
 
@@ -60,11 +60,12 @@ fn is_of(cell: &Cell, id: u8) -> bool
 // What is found in a cell and an offer, each of Basic and of the module.
 fn weigh<M: Module>(
     ask: &BasicAsk<'_, M>,
+    bytes: &[u8; CELL_LENGTH],
     cell: &Cell,
     offered: &Offered<'_>,
     keys: &mut KeptKey,
 ) -> Result<OpFinding<BatchAnswer>, Refusal>
-    requires cell { FitsVariant cell.now.variant cell.now.flag cell.now.barrier }
+    requires cell { SpellsCell bytes.now cell.now }
     requires variant { variant_of offered.now.content.place ≡ Basic }
     requires position { offered.now.content.position ≤ last_position }
     ensures { IsOrMemory
@@ -72,11 +73,12 @@ fn weigh<M: Module>(
         (batch_of ask.now.batch)) result }
 {
     let body = offered.body();
-    let here = summary_in(&body.place);
-    let next = link(&here, normal(ask.batch));
-    let verdict = verdict(&cell.summary, &here, &next);
     let key = keys.under(&cell.key);
-    let again = examine(ask.module, key, offered, ask.batch, verdict)?;
+    vet(ask.module, key, offered)?;
+    let here = summary_in(&body.place);
+    let next = link_under(key, ask.alloc, &here, normal(ask.batch));
+    let verdict = verdict(&cell.summary, &here, &next);
+    let again = admit_batch(offered, ask.batch, verdict)?;
     let answer = match answer(
         ask.alloc,
         ask.module,
@@ -92,11 +94,7 @@ fn weigh<M: Module>(
     if again {
         return Ok(OpFinding::Repeat(answer));
     }
-    let next = cell_bytes(&Cell {
-        summary: next,
-        ..*cell
-    });
-    let change = Change::Writing(next);
+    let change = Change::Writing(with_summary(bytes, &next));
     Ok(OpFinding::Change(ReadyChange { change, answer }))
 }
 

@@ -27,6 +27,7 @@ pub mod CallFindingWords
 pub mod CheckpointsWords
 pub mod CallOutcomeWords
 pub mod OrderWords
+pub mod OfferOrder
 pub mod AnswersWords
 pub mod MoveLaws
 pub mod WalkLaws

@@ -12,17 +12,19 @@ mod ended;
 mod examining;
 mod first;
 mod laws;
+mod linking;
 mod turn;
 mod whole;
 
 pub use answering::answer;
 pub use ended::{AskResult, refusal_of};
-pub use examining::{admit, examine};
+pub use examining::{admit, admit_batch, vet};
 pub use first::{Provisioned, provision_with};
 pub use laws::{
     basic_calls_agree, basic_checkpoints_agree, opt_calls_agree, opt_checkpoints_agree, opt_tied,
     trails_lead,
 };
+pub use linking::link_under;
 pub use mm_model::{BatchRun, run_batch};
 pub use mm_seal::KeptKey;
 pub use turn::Turn;

@@ -2,6 +2,7 @@
 use Rattle.std.specs.Prelude.{◌≡◌, ◌≢◌, ◌==◌, ℕ, Bool, true, false, List, ◌∷◌, ◌++◌, length, replicate, Result, Ok, Err}
 use Rattle.std.specs.Prelude.{take, drop, slice_index}
 use Rattle.mm_base.specs.Limits.{cell_length}
+use Rattle.mm_digest.specs.declared.digest.Digest.{Digest}
 use Rattle.mm_digest.specs.declared.variant.Variant.{Variant}
 use Rattle.mm_digest.specs.declared.variant.Variant.TheVariants.{Basic, Opt}
 use Rattle.mm_digest.specs.Messages.{variant_byte, zero_bytes}
@@ -50,6 +51,11 @@ blank_cell = replicate cell_length 0
 -- the bytes are this cell's
 abbrev pub SpellsCell : List ℕ → Cell → Type 0
 SpellsCell bytes cell = IsCell cell × (bytes ≡ cell_spelling cell)
+
+-- the bytes of each cell that these spell, with this summary
+abbrev pub IsSpelledWith : Digest → List ℕ → List ℕ → Type 0
+IsSpelledWith summary bytes next =
+    (cell : Cell) → SpellsCell bytes cell → next ≡ cell_spelling (record cell { summary = summary })
 
 -- no cell is spelled so
 abbrev pub IsNoCell : List ℕ → Type 0

@@ -2,7 +2,8 @@
 use Rattle.std.proofs.Common.{Result, Ok, Err, ◌≢◌, ℕ, ◌≡◌, Bool, true, false, List, [], ◌∷◌, ◌++◌, length, get_or, refl, ap, sym, ◌∙◌}
 use Rattle.std.proofs.Common.{◌+◌, ◌<◌, ◌≤◌, take, drop, arith, length-drop}
 use Rattle.std.specs.Prelude.{◌==◌}
-use Rattle.std.proofs.lemmas.List.{append-nil, drop-drop, get_or-take, length-take, take-append-drop}
+use Rattle.std.proofs.lemmas.List.{append-nil, drop-drop, drop_all, drop_at, get_or-take, length-take, take-append-drop}
+use Rattle.mm_digest.specs.declared.digest.Digest.{Digest}
 use Rattle.mm_digest.specs.declared.variant.Variant.{Variant}
 use Rattle.mm_digest.specs.declared.variant.Variant.TheVariants.{Basic, Opt}
 use Rattle.mm_digest.specs.Messages.{variant_byte}
@@ -10,7 +11,7 @@ use Rattle.mm_seal.specs.declared.cell.Cell.{Cell}
 use Rattle.mm_seal.specs.declared.cell.CellFault.{CellFault}
 use Rattle.mm_seal.specs.declared.cell.CellFault.TheVariants.{Blank, Cell as Unspelled}
 use Rattle.mm_seal.specs.Fields.{version_of}
-use Rattle.mm_seal.specs.Cell.{IsCell, ReadsCell, cell_at, flag_byte, cell_spelling, blank_cell}
+use Rattle.mm_seal.specs.Cell.{IsCell, IsSpelledWith, ReadsCell, cell_at, flag_byte, cell_spelling, blank_cell}
 use Rattle.mm_base.specs.FieldLaws.{append-injective}
 
 pub variant_byte-injective : (v w : Variant) → variant_byte v ≡ variant_byte w → v ≡ w
@@ -31,7 +32,8 @@ pub record FieldsOf (cell : Cell) (head summary key barrier : List ℕ) : Type 0
   pub at_key : key ≡ cell.key
   pub at_barrier : barrier ≡ cell.barrier
 
-head_of_cell : Cell → List ℕ
+-- the bytes before the fields of 32
+unfoldable pub head_of_cell : Cell → List ℕ
 head_of_cell cell =
     0x4d ∷ 0x4d ∷ 0x4e ∷ version_of cell.module ∷ variant_byte cell.variant ∷ cell.module
     ∷ flag_byte cell.flag ∷ 0 ∷ []
@@ -98,6 +100,42 @@ cell_at-only bytes cell v is e size t =
     _ _ _ _ cell is e
     (sym (take-append-drop 8 bytes)) (omega (arith, length-take 8 bytes)) (field 8 (omega arith)) (field 40 (omega arith))
     (field 72 (omega arith)) v (t ∙ byte 4 (omega arith))
+
+-- the field of 32 bytes at this offset, and what stands behind it
+field_at : (bytes : List ℕ) (n : ℕ) → drop n bytes ≡ take 32 (drop n bytes) ++ drop (n + 32) bytes
+field_at bytes n =
+    sym (take-append-drop 32 (drop n bytes)) ∙ ap (λ (back : List ℕ). take 32 (drop n bytes) ++ back) (drop-drop 32 n bytes)
+
+-- bytes that begin as the cell of the fields at their offsets are that cell's
+pub spelled_by_head : (bytes : List ℕ) (cell : Cell) → length bytes ≡ 104 → cell ≡ cell_at cell.variant bytes
+    → take 8 bytes ≡ head_of_cell cell → bytes ≡ cell_spelling cell
+unfolding cell_spelling head_of_cell
+spelled_by_head bytes cell size at head =
+    sym (take-append-drop 8 bytes)
+    ∙ ap (λ (x : List ℕ). x ++ drop 8 bytes) head
+    ∙ ap (λ (x : List ℕ). head_of_cell cell ++ x) (field_at bytes 8)
+    ∙ ap (λ (x : List ℕ). head_of_cell cell ++ (take 32 (drop 8 bytes) ++ x)) (field_at bytes 40)
+    ∙ ap (λ (x : List ℕ). head_of_cell cell ++ (take 32 (drop 8 bytes) ++ (take 32 (drop 40 bytes) ++ x))) (field_at bytes 72)
+    ∙ ap (λ (x : List ℕ). head_of_cell cell ++ (take 32 (drop 8 bytes) ++ (take 32 (drop 40 bytes) ++ (take 32 (drop 72 bytes) ++ x))))
+    (drop_all 104 bytes (omega (arith, size)))
+    ∙ ap (λ (x : List ℕ). head_of_cell cell ++ (take 32 (drop 8 bytes) ++ (take 32 (drop 40 bytes) ++ x)))
+    (append-nil (take 32 (drop 72 bytes)))
+    ∙ ap (λ (c : Cell). head_of_cell cell ++ (c.summary.bytes ++ (c.key ++ c.barrier))) (sym at)
+
+pub head_of_spelled : (bytes : List ℕ) (cell : Cell) → bytes ≡ cell_spelling cell → take 8 bytes ≡ head_of_cell cell
+unfolding cell_spelling head_of_cell
+head_of_spelled bytes cell e = ap (λ (x : List ℕ). take 8 x) e
+
+-- a cell's bytes in which the summary is replaced
+pub summary_replaced : (bytes next : List ℕ) (summary : Digest)
+    → next ≡ take 8 bytes ++ (summary.bytes ++ drop 32 (drop 8 bytes)) → IsSpelledWith summary bytes next
+unfolding cell_spelling head_of_cell
+summary_replaced bytes next summary e cell is =
+    let after : drop 32 (cell.summary.bytes ++ (cell.key ++ cell.barrier)) ≡ cell.key ++ cell.barrier =
+    drop_at cell.summary.bytes (cell.key ++ cell.barrier) 32 is.0.summary in
+    e
+    ∙ ap (λ (x : List ℕ). take 8 x ++ (summary.bytes ++ drop 32 (drop 8 x))) is.1
+    ∙ ap (λ (x : List ℕ). head_of_cell cell ++ (summary.bytes ++ x)) after
 
 pub variant_in_spelling : (bytes : List ℕ) (cell : Cell) → bytes ≡ cell_spelling cell → variant_byte cell.variant ≡ get_or bytes 4 0
 unfolding cell_spelling

@@ -1,7 +1,8 @@
 //! The non-volatile cell: what a platform keeps without power.
 
 ghost use Rattle.std.specs.Prelude.{◌≡◌, ◌↔◌, IsTrue, MatchOption};
-ghost use Rattle.mm_seal.specs.Cell.{FitsVariant, cell_at, cell_spelling, IsNoCell, SpellsCell, ReadsCell};
+ghost use Rattle.mm_seal.specs.Cell.{FitsVariant, cell_at, cell_spelling, IsNoCell, IsSpelledWith, SpellsCell, ReadsCell};
+ghost use Rattle.mm_seal.specs.CellLaws.{head_of_cell};
 
 use crate::field::{digest_at, version};
 use mm_base::CELL_LENGTH;
@@ -48,30 +49,31 @@ pub enum CellFault {
 }
 
 /// The cell's 104 bytes. A Basic cell has a clear flag and a zero barrier.
-#[tactic(auto, unfolding(crate::specs::Cell::cell_spelling))]
+#[tactic(auto, unfolding(crate::specs::Cell::cell_spelling, crate::specs::CellLaws::head_of_cell))]
 pub fn cell_bytes(cell: &Cell) -> [u8; CELL_LENGTH]
     requires { FitsVariant cell.now.variant cell.now.flag cell.now.barrier }
     ensures { result ≡ cell_spelling cell.now }
 {
     let mut bytes = [0; CELL_LENGTH];
-    let head = [
-        b'M',
-        b'M',
-        b'N',
-        version(cell.module),
-        cell.variant.byte(),
-        cell.module,
-        u8::from(cell.flag),
-        0,
-    ];
     let (front, rest) = bytes.split_at_mut(8);
-    front.copy_from_slice(&head);
+    front.copy_from_slice(&head_of(cell));
     let (summary, rest) = rest.split_at_mut(32);
     summary.copy_from_slice(&cell.summary.bytes);
     let (key, barrier) = rest.split_at_mut(32);
     key.copy_from_slice(&cell.key);
     barrier.copy_from_slice(&cell.barrier);
     bytes
+}
+
+/// The bytes of a cell with another summary, which are its own but for these 32.
+pub fn with_summary(bytes: &[u8; CELL_LENGTH], summary: &Digest) -> [u8; CELL_LENGTH]
+    ensures { IsSpelledWith summary.now bytes.now result }
+{
+    let mut next = *bytes;
+    let (_, behind) = next.split_at_mut(8);
+    let (field, _) = behind.split_at_mut(32);
+    field.copy_from_slice(&summary.bytes);
+    next
 }
 
 /// The cell that these bytes are. Blank exactly on 104 zero bytes, Cell exactly on bytes that are
@@ -117,10 +119,29 @@ fn cell_at(variant: Variant, bytes: &[u8; CELL_LENGTH]) -> Cell
     }
 }
 
-// Whether these bytes are the cell's.
+// Whether these bytes are the cell's, whose fields are those at their offsets: so it is by the head
+// alone.
 fn is_spelled(cell: &Cell, bytes: &[u8; CELL_LENGTH]) -> bool
-    requires { FitsVariant cell.now.variant cell.now.flag cell.now.barrier }
+    requires { cell.now ≡ cell_at cell.now.variant bytes.now }
     ensures { IsTrue result ↔ (bytes.now ≡ cell_spelling cell.now) }
 {
-    cell_bytes(cell) == *bytes
+    let (head, _) = bytes.split_at(8);
+    head == head_of(cell).as_slice()
+}
+
+// The bytes before the summary.
+#[tactic(auto, unfolding(crate::specs::CellLaws::head_of_cell))]
+fn head_of(cell: &Cell) -> [u8; 8]
+    ensures { result ≡ head_of_cell cell.now }
+{
+    [
+        b'M',
+        b'M',
+        b'N',
+        version(cell.module),
+        cell.variant.byte(),
+        cell.module,
+        u8::from(cell.flag),
+        0,
+    ]
 }

@@ -5,10 +5,11 @@
 mod cell;
 mod field;
 mod kept;
+mod link;
 mod sealing;
 mod snapshot;
 
-pub use cell::{Cell, CellFault, cell_bytes, read_cell};
+pub use cell::{Cell, CellFault, cell_bytes, read_cell, with_summary};
 pub use field::split_digest;
 pub use kept::KeptKey;
 pub use sealing::{SealingKey, TaggedText};

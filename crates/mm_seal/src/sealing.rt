@@ -2,6 +2,7 @@
 
 ghost use Rattle.std.specs.Prelude.{◌≡◌, IfSome, IsSome};
 
+use crate::link::{LastLink, successor_after};
 use crate::snapshot::{Body, Offered, front};
 use mm_base::{Bytes, Memory};
 use mm_digest::{Digest, HmacKey};
@@ -10,14 +11,16 @@ use std::marker::Model;
 
 /// A key of 32 bytes, absorbed once, that remembers the two texts that it sealed last, with their
 /// tags. The snapshot that was sealed last is mostly what is offered next, and a repeat seals it
-/// again, offering the one before: neither takes a second HMAC. What is remembered is each text's
-/// own tag, so it changes no answer, and contracts see the key alone.
+/// again, offering the one before: neither takes a second HMAC. It remembers the last link of the
+/// history too, which a repeat makes again. What is remembered is each text's own tag, and the
+/// link's own digest, so it changes no answer, and contracts see the key alone.
 #[derive(Drop)]
 pub struct SealingKey {
     bytes: [u8; 32],
     key: Option<HmacKey>,
     last: Option<TaggedText>,
     before: Option<TaggedText>,
+    link: Option<LastLink>,
 }
 
 /// A text that was sealed, which is a snapshot without its tag; and the tag.
@@ -42,6 +45,7 @@ impl SealingKey {
     ghost use Rattle.std.specs.Prelude.{◌≡◌, ◌≤◌, ◌↔◌, IsTrue, IfOk, IfSome, length};
     ghost use Rattle.mm_base.specs.Limits.{last_position, limit_of};
     ghost use Rattle.mm_digest.specs.Hmac.{hmac_of};
+    ghost use Rattle.mm_digest.specs.MessagesWords.{successor_digest_of};
     ghost use Rattle.mm_seal.specs.Body.{content_of};
     ghost use Rattle.mm_seal.specs.Snapshot.{sealed_snapshot_of, tag_of};
 
@@ -54,6 +58,7 @@ impl SealingKey {
             key: Some(HmacKey::new(key)),
             last: None,
             before: None,
+            link: None,
         }
     }
 
@@ -72,6 +77,7 @@ impl SealingKey {
             key: None,
             last,
             before,
+            link: None,
         }
     }
 
@@ -133,6 +139,16 @@ impl SealingKey {
         let tag = self.tag_kept(alloc, bytes.as_slice());
         bytes.append(&tag.bytes)?;
         Ok(bytes)
+    }
+
+    /// The summary after one more request, as [`mm_digest::successor`] gives it. It is remembered
+    /// from then on; where memory is too short for that alone, nothing is.
+    #[inline(always)]
+    pub fn successor(&mut self, alloc: Global, summary: &Digest, request: &[u8]) -> Digest
+        ensures digest { result.bytes ≡ successor_digest_of summary.now.bytes request.now }
+        ensures same { self.new ≡ self.old }
+    {
+        successor_after(alloc, &mut self.link, summary, request)
     }
 
     // The tag of a text.
