@@ -1,8 +1,8 @@
 //! Why the program stopped: a line for people on standard error, none where all was done.
 
-use mm_app::Status;
 use mm_files::Reason;
 use mm_model::Refusal;
+use mm_status::Status;
 use std::io;
 
 /// Why the last call of each device that failed did.
