@@ -1,11 +1,9 @@
 -- The words and laws that the proofs of this crate take from specs/ and from the crates below.
-pub use Rattle.std.specs.Io.KnownBytes.{Appends, Consumes, IsAtEnd}
-pub use Rattle.std.proofs.Common.{◌++◌, ◌+◌, ◌<◌, ◌==◌, ◌∙◌, ◌∷◌, ◌≡◌, ◌≤◌, ◌⊎◌, [], ap, append-nil, append_assoc, arith, Bool, cond, Err}
-pub use Rattle.std.proofs.Common.{false, inl, inr, is_some, length, length-append, List, map, nat_lt, None, Ok, OnOk, Option, refl, Result}
-pub use Rattle.std.proofs.Common.{Some, subst, suc, sym, take, true, ℕ}
-pub use Rattle.std.proofs.KnownBytes.{Appends-trans, Consumes-nil}
+pub use Rattle.std.specs.Io.KnownBytes.{Consumes, IsAtEnd}
+pub use Rattle.std.proofs.Common.{◌+◌, ◌<◌, ◌∙◌, ◌≡◌, ◌≤◌, ◌⊎◌, [], ap, arith, Bool, Err}
+pub use Rattle.std.proofs.Common.{false, inl, inr, is_some, length, length-append, List, map, None, Ok, Option, refl, Result}
+pub use Rattle.std.proofs.Common.{Some, subst, sym, true, ℕ}
 pub use Rattle.mm_base.specs.Faults.{next_count, CountsFaults, CountRose}
-pub use Rattle.mm_base.specs.Input.{lines_of, lines_with_front, tail_with_front, tail_of}
 pub use Rattle.mm_base.specs.Streams.{SinkSends}
 pub use Rattle.mm_base.specs.declared.replay_fault.ReplayFault.{ReplayFault}
 pub use Rattle.mm_digest.specs.declared.variant.Variant.{Variant}
@@ -21,10 +19,8 @@ pub use Rattle.mm_opt.specs.Checkpoints.{ClosesSegment, closing_by, closing_faul
 pub use Rattle.mm_opt.specs.Checkpoints.{FindsClosing, FindsSegment, LooksAtSegment, segment_by, segment_in, WeighsRegister}
 pub use Rattle.mm_opt.specs.declared.segment.CheckpointRefusal.{CheckpointRefusal}
 pub use Rattle.mm_opt.specs.declared.segment.Checkpointed.{Checkpointed}
-pub use Rattle.mm_schedule.specs.Headers.{header_at}
 pub use Rattle.mm_schedule.specs.declared.header.Header.{Header}
-pub use Rattle.mm_play.specs.PlaysInput.{HoldsOfWhole, is_read_fault, is_write_fault, IsBlamed, IsUnrefused, AnswerFits}
-pub use Rattle.mm_play.specs.Fronts.{IsFrontOf}
+pub use Rattle.mm_play.specs.PlaysInput.{is_read_fault, is_write_fault, IsBlamed}
 pub use Rattle.mm_store.specs.StoreStanding.{StoreStanding}
 pub use Rattle.mm_words.specs.declared.command.CommandLine.{CommandLine}
 pub use Rattle.mm_words.specs.declared.command.CommandLine.TheVariants.{Bulk, Check, Checkpoint, Gen, Help, Init, Power, Receipts, Replay}
@@ -37,18 +33,18 @@ pub use Rattle.mm_recovery.specs.Init.{GoesAfterLooking, GoesAfterAllPuts, GoesA
 pub use Rattle.mm_recovery.specs.Init.{TakesBytes, result_of_write}
 pub use Rattle.mm_recovery.specs.declared.init_fault.InitFault.{InitFault}
 pub use Rattle.mm_host.specs.declared.fault.SessionFault.{SessionFault}
-pub use Rattle.mm_host.proofs.Above.{continues_from, runs_once_from}
 pub use Rattle.mm_app.specs.Blame.{BlamesOutput, BlamesSource, source_faults, tells_platform_fault, tells_read_fault, tells_store_fault}
 pub use Rattle.mm_app.specs.Bulk.{bulk_lines}
-pub use Rattle.mm_app.specs.Checkpoint.{checkpoint_line}
+pub use Rattle.mm_host_commands.specs.Checkpoint.{checkpoint_line}
 pub use Rattle.mm_app.specs.Commands.{CommandDoes, DoesOrLacks, ReadsInput, UsesPlatform, UsesStore}
-pub use Rattle.mm_app.specs.Completeness.{CanBeDone, CanClose, CanRun, IsDoneOrFailed, ShowsPower}
-pub use Rattle.mm_app.specs.Outside.{IsStill, Outside, outside}
-pub use Rattle.mm_app.specs.Power.{power_line}
-pub use Rattle.mm_app.specs.Run.{ContinuesIfFound, FindsInstance, found_header, found_instance, LooksAtInstance, RunsOnceIfFound}
-pub use Rattle.mm_app.specs.Run.{SeesInstance, ServesAndStops, ServesIfFound, session_status}
-pub use Rattle.mm_app.specs.Init.{init_line}
-pub use Rattle.mm_app.specs.Status.{EndsUnrefused, status_of, stop_line}
-pub use Rattle.mm_app.specs.CommandOutput.{EndsAtOnce, GivesText, status_by, StopsAs, TellsLines, TellsStop}
-pub use Rattle.mm_app.specs.declared.status.Status.{Status}
-pub use Rattle.mm_app.specs.declared.status.Status.TheVariants.{BadLine, Done, LineLong, Memory, PlatformFault, TooMuch, Usage, WriteFault}
+pub use Rattle.mm_app.specs.Completeness.{CanBeDone, CanClose, IsDoneOrFailed, ShowsPower}
+pub use Rattle.mm_host_commands.specs.Outside.{IsStill, Outside, outside}
+pub use Rattle.mm_host_commands.specs.Power.{power_line}
+pub use Rattle.mm_host_commands.specs.Run.{ContinuesIfFound, FindsInstance, found_header, found_instance}
+pub use Rattle.mm_host_commands.specs.Run.{SeesInstance, ServesAndStops, ServesIfFound, session_status}
+pub use Rattle.mm_host_commands.specs.Init.{init_line}
+pub use Rattle.mm_status.specs.Status.{status_of, stop_line}
+pub use Rattle.mm_status.specs.CommandOutput.{status_by, StopsAs, TellsLines, TellsStop}
+pub use Rattle.mm_app.specs.CommandOutput.{EndsAtOnce, GivesText}
+pub use Rattle.mm_status.specs.declared.status.Status.{Status}
+pub use Rattle.mm_status.specs.declared.status.Status.TheVariants.{Done, Memory, PlatformFault, TooMuch, Usage, WriteFault}

@@ -43,7 +43,7 @@ use Rattle.mm_seal.specs.declared.cell.Cell.{Cell}
 use Rattle.mm_seal.specs.CellLaws.{reads_cell-same}
 use Rattle.mm_store.specs.declared.fault.StoreFault.{StoreFault}
 use Rattle.mm_app.proofs.Below.{Bulk, bulk_lines, BulkFault, Summary}
-use Rattle.mm_app.specs.Outside.{devices_of}
+use Rattle.mm_host_commands.specs.Outside.{devices_of}
 use Rattle.mm_app.specs.Completeness.{CanRun, CanServe, in_basic, in_opt, IsReplayable}
 use Rattle.mm_gen.specs.Replay.{IsReplayed, replay_of}
 use Rattle.mm_gen.specs.declared.fault.BulkFault.TheVariants as bulk

@@ -16,8 +16,8 @@ use Rattle.mm_words.specs.declared.fault.WordsFault.TheVariants as words
 use Rattle.mm_app.specs.Commands.{SpellNone, SpellSome}
 use Rattle.mm_app.specs.StatusFacts.{CantRead, EndsByFault, FindsBasic, HasLostPower, IsExactlyWhere, MayBeLost, NeedsInstance}
 use Rattle.mm_app.specs.StatusFacts.{RefusesNext, RunsShort, StartsOne}
-use Rattle.mm_app.specs.Status.{words_status}
-use Rattle.mm_app.specs.declared.status.Status.TheVariants.{Blank, Already, Cell, Lost, Refused, Short, Kind}
+use Rattle.mm_app.specs.WordsStatus.{words_status}
+use Rattle.mm_status.specs.declared.status.Status.TheVariants.{Blank, Already, Cell, Lost, Refused, Short, Kind}
 
 -- a status that tells of what a device held
 abbrev pub tells_held : Status → Bool

@@ -23,7 +23,7 @@ use Rattle.mm_seal.specs.Cell.{blank_cell, cell_spelling, flag_byte, ReadsCell, 
 use Rattle.mm_seal.specs.CellLaws.{reads_cell-same}
 use Rattle.mm_seal.specs.declared.cell.CellFault.TheVariants as unheld
 use Rattle.mm_app.specs.StatusFacts.{CantRead, EndsByFault, FindsBasic, HasLostPower, IsExactlyWhere}
-use Rattle.mm_app.specs.declared.status.Status.TheVariants.{Already, Blank, Cell, Kind, Lost, PlatformFault, Refused, Short}
+use Rattle.mm_status.specs.declared.status.Status.TheVariants.{Already, Blank, Cell, Kind, Lost, PlatformFault, Refused, Short}
 use Rattle.mm_app.proofs.Completing.{is_zero}
 use Rattle.mm_app.proofs.Holding.{by_fault_where, exactly_here, held_told, Holding, none_offered, nowhere, tells_held}
 

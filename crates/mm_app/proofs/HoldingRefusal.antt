@@ -21,8 +21,8 @@ use Rattle.mm_seal.specs.Cell.{cell_spelling, FitsVariant, IsCell, SpellsCell}
 use Rattle.mm_store.specs.PendingRecord.{PendingRecord}
 use Rattle.mm_store.specs.Slots.{Slots, slot_front}
 use Rattle.mm_app.specs.StatusFacts.{EndsByFault, instance_of, RefusesNext}
-use Rattle.mm_app.specs.Run.{refusal_status, session_fault_status}
-use Rattle.mm_app.specs.declared.status.Status.TheVariants.{Refused}
+use Rattle.mm_host_commands.specs.Run.{refusal_status, session_fault_status}
+use Rattle.mm_status.specs.declared.status.Status.TheVariants.{Refused}
 
 -- The instance of a cell, and where the platform stands.
 

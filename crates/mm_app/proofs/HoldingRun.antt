@@ -34,11 +34,11 @@ use Rattle.mm_seal.specs.CellLaws.{reads_cell-same}
 use Rattle.mm_seal.specs.declared.cell.CellFault.TheVariants as unheld
 use Rattle.mm_store.specs.PendingRecord.{PendingRecord}
 use Rattle.mm_store.specs.Slots.{Slots, slot_front}
-use Rattle.mm_app.specs.Outside.{session_of}
+use Rattle.mm_host_commands.specs.Outside.{session_of}
 use Rattle.mm_app.specs.StatusFacts.{CantRead, EndsByFault, HasLostPower, instance_of, IsExactlyWhere, MayBeLost, RefusesNext}
-use Rattle.mm_app.specs.Run.{refusal_status}
-use Rattle.mm_app.specs.Status.{status_at}
-use Rattle.mm_app.specs.declared.status.Status.TheVariants.{Already, Blank, Cell, Kind, Lost, Refused, Short}
+use Rattle.mm_host_commands.specs.Run.{refusal_status}
+use Rattle.mm_status.specs.Status.{status_at}
+use Rattle.mm_status.specs.declared.status.Status.TheVariants.{Already, Blank, Cell, Kind, Lost, Refused, Short}
 use Rattle.mm_app.proofs.HoldingRefusal.{refused_always, StandsFirst, stands_first}
 use Rattle.mm_app.proofs.Holding.{exactly_here, fault_holding, Holding, nowhere, tells_held}
 

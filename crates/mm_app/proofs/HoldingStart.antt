@@ -10,10 +10,10 @@ use Rattle.mm_recovery.specs.FirstStart.{TellsByCell}
 use Rattle.mm_recovery.specs.Init.{host_among}
 use Rattle.mm_recovery.specs.declared.init_fault.InitFault.TheVariants as init
 use Rattle.mm_seal.specs.Cell.{blank_cell}
-use Rattle.mm_app.specs.Outside.{devices_of}
+use Rattle.mm_host_commands.specs.Outside.{devices_of}
 use Rattle.mm_app.specs.StatusFacts.{EndsByFault, IsExactlyWhere}
-use Rattle.mm_app.specs.declared.status.Status.TheVariants.{Already, Blank, Cell, Kind, Lost, Refused, Short, Memory, PlatformFault}
-use Rattle.mm_app.specs.declared.status.Status.TheVariants.{ReadFault, StoreFault}
+use Rattle.mm_status.specs.declared.status.Status.TheVariants.{Already, Blank, Cell, Kind, Lost, Refused, Short, Memory, PlatformFault}
+use Rattle.mm_status.specs.declared.status.Status.TheVariants.{ReadFault, StoreFault}
 use Rattle.mm_app.proofs.Completing.{set_whole}
 use Rattle.mm_app.proofs.Holding.{by_fault_where, exactly_here, held_told, Holding, none_offered, nowhere, tells_held}
 

@@ -2,13 +2,10 @@ mod Below
 mod Blame
 mod OutputBlame
 mod Completing
-mod Ending
 mod Headlines
-mod Sending
 mod Stopping
 mod NoUsage
 mod Theorems
-mod RunningOnce
 mod Holding
 mod HoldingStart
 mod HoldingClosing

@@ -11,8 +11,8 @@ use Rattle.mm_recovery.specs.declared.fault.HostFault.{HostFault}
 use Rattle.mm_host.specs.SessionBlame as session_blame
 use Rattle.mm_host.specs.declared.fault.SessionFault.TheVariants as session
 use Rattle.mm_play.specs.PlaysInput as plays
-use Rattle.mm_app.specs.Run.{session_fault_status}
-use Rattle.mm_app.specs.declared.status.Status.TheVariants.{Done}
+use Rattle.mm_host_commands.specs.Run.{session_fault_status}
+use Rattle.mm_status.specs.declared.status.Status.TheVariants.{Done}
 use Rattle.mm_app.proofs.Blame.{end_of, start_blames, unheld_as, platform_end}
 
 -- the output

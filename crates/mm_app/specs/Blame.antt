@@ -4,9 +4,9 @@ use Rattle.mm_base.specs.Faults.{CountRose}
 use Rattle.mm_play.specs.PlaysInput.{IsBlamed}
 use Rattle.mm_words.specs.declared.command.CommandLine.{CommandLine}
 use Rattle.mm_words.specs.declared.command.CommandLine.TheVariants.{Init}
-use Rattle.mm_app.specs.Outside.{Outside}
-use Rattle.mm_app.specs.declared.status.Status.{Status}
-use Rattle.mm_app.specs.declared.status.Status.TheVariants.{Done, ReadFault, WriteFault, PlatformFault, StoreFault}
+use Rattle.mm_host_commands.specs.Outside.{Outside}
+use Rattle.mm_status.specs.declared.status.Status.{Status}
+use Rattle.mm_status.specs.declared.status.Status.TheVariants.{Done, ReadFault, WriteFault, PlatformFault, StoreFault}
 
 abbrev pub tells_platform_fault : Status → Bool
 tells_platform_fault PlatformFault = true

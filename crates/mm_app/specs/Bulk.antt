@@ -10,10 +10,10 @@ use Rattle.mm_gen.specs.declared.fault.BulkFault.TheVariants as fault
 use Rattle.mm_gen.specs.declared.summary.Summary.{Summary}
 use Rattle.mm_replay.specs.Schedule.{first_running_replay}
 use Rattle.mm_words.specs.declared.command.GeneratedSchedule.{GeneratedSchedule}
-use Rattle.mm_app.specs.CommandOutput.{TellsLines}
-use Rattle.mm_app.specs.Outside.{Outside}
-use Rattle.mm_app.specs.declared.status.Status.{Status}
-use Rattle.mm_app.specs.declared.status.Status.TheVariants.{Memory, TooMuch}
+use Rattle.mm_status.specs.CommandOutput.{TellsLines}
+use Rattle.mm_host_commands.specs.Outside.{Outside}
+use Rattle.mm_status.specs.declared.status.Status.{Status}
+use Rattle.mm_status.specs.declared.status.Status.TheVariants.{Memory, TooMuch}
 
 -- what is told of a run of so many events
 abbrev pub bulk_lines : ℕ → Result Summary BulkFault → Result (List ℕ) Status

@@ -12,14 +12,14 @@ use Rattle.mm_slots.specs.WholeSlots.{PlaysSlots}
 use Rattle.mm_transfer.specs.TransferPlay.{PlaysTransfer}
 use Rattle.mm_app.specs.LinePlays.{PlaysAndStops}
 use Rattle.mm_app.specs.Bulk.{RunsInBulk}
-use Rattle.mm_app.specs.Checkpoint.{CheckpointsInstance}
-use Rattle.mm_app.specs.Outside.{Outside, IsStill}
-use Rattle.mm_app.specs.Power.{LosesPower}
-use Rattle.mm_app.specs.Run.{RunsInstance}
-use Rattle.mm_app.specs.Init.{StartsInstance}
+use Rattle.mm_host_commands.specs.Checkpoint.{CheckpointsInstance}
+use Rattle.mm_host_commands.specs.Outside.{Outside, IsStill}
+use Rattle.mm_host_commands.specs.Power.{LosesPower}
+use Rattle.mm_host_commands.specs.Run.{RunsInstance}
+use Rattle.mm_host_commands.specs.Init.{StartsInstance}
 use Rattle.mm_app.specs.CommandOutput.{EndsAtOnce, GivesText}
-use Rattle.mm_app.specs.declared.status.Status.{Status}
-use Rattle.mm_app.specs.declared.status.Status.TheVariants.{Memory}
+use Rattle.mm_status.specs.declared.status.Status.{Status}
+use Rattle.mm_status.specs.declared.status.Status.TheVariants.{Memory}
 
 -- What a command does, by what the objects that it is handed tell before and after.
 abbrev pub CommandDoes : CommandLine → (old new : Outside) → Status → Type 0

@@ -35,9 +35,9 @@ use Rattle.mm_words.specs.declared.command.CommandLine.{CommandLine}
 use Rattle.mm_words.specs.declared.command.GeneratedSchedule.{GeneratedSchedule}
 use Rattle.mm_words.specs.declared.command.CommandLine.TheVariants.{Init, Run, Checkpoint, Power, Gen, Bulk, Help, Replay, Check, Slots}
 use Rattle.mm_words.specs.declared.command.CommandLine.TheVariants.{Receipts, Transfer}
-use Rattle.mm_app.specs.Outside.{Outside}
-use Rattle.mm_app.specs.declared.status.Status.{Status}
-use Rattle.mm_app.specs.declared.status.Status.TheVariants.{Done, ReadFault, WriteFault, Memory, PlatformFault, StoreFault}
+use Rattle.mm_host_commands.specs.Outside.{Outside}
+use Rattle.mm_status.specs.declared.status.Status.{Status}
+use Rattle.mm_status.specs.declared.status.Status.TheVariants.{Done, ReadFault, WriteFault, Memory, PlatformFault, StoreFault}
 
 -- All was done, or memory was wanting, or an object that was handed in failed.
 abbrev pub IsDoneOrFailed : Status → Type 0

@@ -4,8 +4,8 @@ use Rattle.mm_base.specs.declared.replay_fault.ReplayFault.{ReplayFault}
 use Rattle.mm_play.specs.Headline.{EventPlayer, TellsEvents}
 use Rattle.mm_play.specs.StreamStanding.{stream_standing}
 use Rattle.mm_replay.specs.Headline.{AreOneRun, replay_player}
-use Rattle.mm_app.specs.Status.{status_of, stop_line}
-use Rattle.mm_app.specs.declared.status.Status.{Status}
+use Rattle.mm_status.specs.Status.{status_of, stop_line}
+use Rattle.mm_status.specs.declared.status.Status.{Status}
 
 -- A play of events, by what is left of the input and what the output received: it ended as the
 -- status says, and where it stopped the stop line or a front of it went out behind.

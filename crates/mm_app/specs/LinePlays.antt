@@ -2,10 +2,10 @@
 use Rattle.std.specs.Prelude.{◌≡◌, ℕ, List, Option, Result}
 use Rattle.mm_base.specs.declared.replay_fault.ReplayFault.{ReplayFault}
 use Rattle.mm_play.specs.PlaysInput.{IsBlamed, is_read_fault, is_write_fault}
-use Rattle.mm_app.specs.Status.{status_of}
-use Rattle.mm_app.specs.CommandOutput.{TellsStop}
-use Rattle.mm_app.specs.Outside.{Outside}
-use Rattle.mm_app.specs.declared.status.Status.{Status}
+use Rattle.mm_status.specs.Status.{status_of}
+use Rattle.mm_status.specs.CommandOutput.{TellsStop}
+use Rattle.mm_host_commands.specs.Outside.{Outside}
+use Rattle.mm_status.specs.declared.status.Status.{Status}
 
 -- A play of the lines, which ended with an answer of this status; `Plays` says what was read and
 -- written with which answer. The input's count rose exactly where the input is to blame for it, and

@@ -2,7 +2,7 @@
 use Rattle.std.specs.Prelude.{ℕ, List, Option}
 use Rattle.mm_slots.specs.Headline.{AreSlotRuns, slots_player}
 use Rattle.mm_app.specs.Headline.{TellsByStatus}
-use Rattle.mm_app.specs.declared.status.Status.{Status}
+use Rattle.mm_status.specs.declared.status.Status.{Status}
 
 -- The headline of slots: what is told of each slot is one run of its module on one list of
 -- requests.

@@ -32,11 +32,11 @@ use Rattle.mm_words.specs.Commands.{SpellsCommand}
 use Rattle.mm_words.specs.declared.command.CommandLine.TheVariants.{Init, Run, Bulk, Checkpoint}
 use Rattle.mm_words.specs.declared.command.GeneratedSchedule.{GeneratedSchedule}
 use Rattle.mm_app.specs.Commands.{SpellSome}
-use Rattle.mm_app.specs.Outside.{Outside, session_of}
-use Rattle.mm_app.specs.Run.{session_status}
-use Rattle.mm_app.specs.declared.status.Status.{Status}
-use Rattle.mm_app.specs.declared.status.Status.TheVariants.{ReadFault, WriteFault, Memory, PlatformFault, StoreFault, Blank, Already, Cell}
-use Rattle.mm_app.specs.declared.status.Status.TheVariants.{Lost, Refused, TooMuch, Short, Kind}
+use Rattle.mm_host_commands.specs.Outside.{Outside, session_of}
+use Rattle.mm_host_commands.specs.Run.{session_status}
+use Rattle.mm_status.specs.declared.status.Status.{Status}
+use Rattle.mm_status.specs.declared.status.Status.TheVariants.{ReadFault, WriteFault, Memory, PlatformFault, StoreFault, Blank, Already, Cell}
+use Rattle.mm_status.specs.declared.status.Status.TheVariants.{Lost, Refused, TooMuch, Short, Kind}
 
 -- memory was wanting, or an object that was handed in failed
 abbrev pub EndsByFault : Status → Type 0

@@ -2,7 +2,7 @@
 use Rattle.std.specs.Prelude.{ℕ, List, Option}
 use Rattle.mm_transfer.specs.Headline.{AreOneTransfer, transfer_player}
 use Rattle.mm_app.specs.Headline.{TellsByStatus}
-use Rattle.mm_app.specs.declared.status.Status.{Status}
+use Rattle.mm_status.specs.declared.status.Status.{Status}
 
 -- The headline of a transfer: what is told of both sides is one run of the module on one list of
 -- requests, and at most one side was live at each moment.

@@ -3,12 +3,11 @@
 ghost use Rattle.std.specs.Prelude.{◌≤◌};
 ghost use Rattle.mm_base.specs.Limits.{most_events};
 ghost use Rattle.mm_app.specs.Bulk.{RunsInBulk, TellsSummary};
-ghost use Rattle.mm_app.specs.Outside.{Outside};
+ghost use Rattle.mm_host_commands.specs.Outside.{Outside};
 
-use crate::status::Status;
-use crate::telling::{stopped, written};
 use mm_base::Sink;
 use mm_gen::{BulkFault, Summary, bulk, summary_text};
+use mm_status::{Status, stopped, written};
 use mm_words::GeneratedSchedule;
 use std::alloc::Global;
 

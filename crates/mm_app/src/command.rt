@@ -10,31 +10,28 @@ ghost use Rattle.mm_app.specs.Commands.{DoesOrLacks, ReadsInput, SpellNo, SpellN
 ghost use Rattle.mm_app.specs.Completeness.{CanBeAnswered, CanBeDone, IsDoneOrFailed};
 ghost use Rattle.mm_app.specs.Headline.{ReplaysOneRun};
 ghost use Rattle.mm_app.specs.StatusFacts.{TellsAlready, TellsBlank, TellsCell, TellsKind, TellsLost, TellsMuch, TellsRefusal, TellsShort};
-ghost use Rattle.mm_app.specs.Outside.{outside};
+ghost use Rattle.mm_host_commands.specs.Outside.{outside};
 ghost use Rattle.mm_app.specs.Slots.{InterleavesRuns};
-ghost use Rattle.mm_app.specs.Status.{EndsUnrefused};
+ghost use Rattle.mm_status.specs.Status.{EndsUnrefused};
 ghost use Rattle.mm_app.specs.CommandOutput.{IsRefused};
 ghost use Rattle.mm_app.specs.Transfer.{MovesOneRun};
-ghost use Rattle.mm_app.specs.declared.status.Status.TheVariants.{Usage};
+ghost use Rattle.mm_app.specs.WordsStatus.{words_status};
+ghost use Rattle.mm_status.specs.declared.status.Status.TheVariants.{Usage};
 
 use crate::bulk::run_in_bulk;
 use crate::check::check_run;
-use crate::checkpoint::close_segment;
 use crate::help::write_help;
-use crate::power::lose_power;
 use crate::receipts::check_receipts;
 use crate::replay::replay_and_stop;
-use crate::run::run_instance;
 use crate::schedule::write_schedule;
 use crate::slots::play_slots;
-use crate::start::start_instance;
-use crate::status::Status;
-use crate::telling::{stopped, written};
 use crate::transfer::play_transfer;
 use mm_base::{Sink, Source};
+use mm_host_commands::{close_segment, lose_power, run_instance, start_instance};
 use mm_platform::Platform;
+use mm_status::{Status, stopped};
 use mm_store::Store;
-use mm_words::{CommandLine, read_words};
+use mm_words::{CommandLine, WordsFault, read_words};
 use std::alloc::Global;
 
 // Does what a command says.
@@ -189,6 +186,16 @@ pub fn memoir<P: Platform, T: Store, S: Source, E: Source, K: Sink>(
 {
     match read_words(alloc, words) {
         Ok(command) => done(alloc, &command, platform, store, input, entropy, out),
-        Err(fault) => stopped(Status::of_words(fault), out),
+        Err(fault) => stopped(of_words(fault), out),
+    }
+}
+
+// How the program ends where the words gave no command.
+fn of_words(fault: WordsFault) -> Status
+    ensures { result ≡ words_status fault }
+{
+    match fault {
+        WordsFault::Usage => Status::Usage,
+        WordsFault::Memory => Status::Memory,
     }
 }

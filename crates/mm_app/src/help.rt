@@ -2,11 +2,10 @@
 
 ghost use Rattle.std.specs.Prelude.{◌⊎◌};
 ghost use Rattle.mm_words.specs.Commands.{help_text};
-ghost use Rattle.mm_app.specs.CommandOutput.{StopsAs, WritesText};
+ghost use Rattle.mm_status.specs.CommandOutput.{StopsAs, WritesText};
 
-use crate::status::Status;
-use crate::telling::{stopped, written};
 use mm_base::Sink;
+use mm_status::{Status, stopped, written};
 use mm_words::help_text;
 use std::alloc::Global;
 

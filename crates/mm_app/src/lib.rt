@@ -3,20 +3,13 @@
 
 mod bulk;
 mod check;
-mod checkpoint;
 mod command;
 mod help;
-mod power;
 mod receipts;
 mod replay;
-mod run;
 mod schedule;
 mod slots;
-mod start;
-mod status;
-mod stop;
-mod telling;
 mod transfer;
 
 pub use command::memoir;
-pub use status::Status;
+pub use mm_status::Status;

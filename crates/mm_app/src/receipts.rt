@@ -3,14 +3,13 @@
 ghost use Rattle.mm_receipt.specs.Reports.{ChecksHonestly};
 ghost use Rattle.mm_words.specs.declared.command.CommandLine.TheVariants.{Receipts};
 ghost use Rattle.mm_app.specs.LinePlays.{PlaysAndStops};
-ghost use Rattle.mm_app.specs.Outside.{Outside, with_streams};
+ghost use Rattle.mm_host_commands.specs.Outside.{Outside, with_streams};
 ghost use Rattle.mm_app.specs.Completeness.{CanBeAnswered};
-ghost use Rattle.mm_app.specs.Status.{EndsUnrefused};
+ghost use Rattle.mm_status.specs.Status.{EndsUnrefused};
 
-use crate::status::Status;
-use crate::telling::answered;
 use mm_base::{Sink, Source};
 use mm_receipt::receipts;
+use mm_status::{Status, answered};
 use std::alloc::Global;
 
 /// Checks the receipts that the input gives, and writes the stop line.

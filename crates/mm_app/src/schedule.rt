@@ -3,12 +3,11 @@
 ghost use Rattle.std.specs.Prelude.{◌≡◌, ◌≤◌, ◌⊎◌};
 ghost use Rattle.mm_base.specs.Limits.{most_events};
 ghost use Rattle.mm_gen.specs.Schedules.{schedule_text};
-ghost use Rattle.mm_app.specs.CommandOutput.{StopsAs, WritesText};
+ghost use Rattle.mm_status.specs.CommandOutput.{StopsAs, WritesText};
 
-use crate::status::Status;
-use crate::telling::{stopped, written};
 use mm_base::Sink;
 use mm_gen::gen_;
+use mm_status::{Status, stopped, written};
 use mm_words::GeneratedSchedule;
 use std::alloc::Global;
 

@@ -3,14 +3,13 @@
 ghost use Rattle.mm_slots.specs.WholeSlots.{PlaysSlots};
 ghost use Rattle.mm_words.specs.declared.command.CommandLine.TheVariants.{Slots};
 ghost use Rattle.mm_app.specs.LinePlays.{PlaysAndStops};
-ghost use Rattle.mm_app.specs.Outside.{Outside, with_streams};
+ghost use Rattle.mm_host_commands.specs.Outside.{Outside, with_streams};
 ghost use Rattle.mm_app.specs.Completeness.{CanBeAnswered};
-ghost use Rattle.mm_app.specs.Status.{EndsUnrefused};
+ghost use Rattle.mm_status.specs.Status.{EndsUnrefused};
 
-use crate::status::Status;
-use crate::telling::answered;
 use mm_base::{Sink, Source};
 use mm_slots::slots;
+use mm_status::{Status, answered};
 use std::alloc::Global;
 
 /// Plays the slots that the input gives, and writes the stop line.

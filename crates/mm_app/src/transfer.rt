@@ -4,13 +4,12 @@
 ghost use Rattle.mm_transfer.specs.TransferPlay.{PlaysTransfer};
 ghost use Rattle.mm_words.specs.declared.command.CommandLine.TheVariants.{Transfer};
 ghost use Rattle.mm_app.specs.LinePlays.{PlaysAndStops};
-ghost use Rattle.mm_app.specs.Outside.{Outside, with_streams};
+ghost use Rattle.mm_host_commands.specs.Outside.{Outside, with_streams};
 ghost use Rattle.mm_app.specs.Completeness.{CanBeAnswered};
-ghost use Rattle.mm_app.specs.Status.{EndsUnrefused};
+ghost use Rattle.mm_status.specs.Status.{EndsUnrefused};
 
-use crate::status::Status;
-use crate::telling::answered;
 use mm_base::{Sink, Source};
+use mm_status::{Status, answered};
 use mm_transfer::transfer;
 use std::alloc::Global;
 

@@ -3,15 +3,15 @@ use Rattle.std.specs.List.{AllByRecursion}
 use Rattle.std.proofs.Common.{◌≡◌, ◌∙◌, ◌⊎◌, ◌++◌, ℕ, List, [], ◌∷◌, Bool, true, false, Option, None, Some, Result, Ok, Err, refl, sym, ap}
 use Rattle.std.proofs.Common.{subst, inl, inr}
 use Rattle.std.proofs.lemmas.List.{append-nil}
-use Rattle.mm_app.specs.Checkpoint.{CheckpointsInstance}
+use Rattle.mm_host_commands.specs.Checkpoint.{CheckpointsInstance}
 use Rattle.mm_app.specs.Commands.{DoesOrLacks, UsesPlatform}
-use Rattle.mm_app.specs.Outside.{devices_of, session_of}
-use Rattle.mm_app.specs.Power.{LosesPower as CommandLosesPower}
-use Rattle.mm_app.specs.Run.{FindsInstance, RunsInstance, ServesIfFound, found_instance}
-use Rattle.mm_app.specs.Init.{StartsInstance}
+use Rattle.mm_host_commands.specs.Outside.{devices_of, session_of}
+use Rattle.mm_host_commands.specs.Power.{LosesPower as CommandLosesPower}
+use Rattle.mm_host_commands.specs.Run.{FindsInstance, RunsInstance, ServesIfFound, found_instance}
+use Rattle.mm_host_commands.specs.Init.{StartsInstance}
 use Rattle.mm_app.specs.CommandOutput.{EndsAtOnce}
-use Rattle.mm_app.specs.declared.status.Status.{Status}
-use Rattle.mm_app.specs.declared.status.Status.TheVariants.{Memory}
+use Rattle.mm_status.specs.declared.status.Status.{Status}
+use Rattle.mm_status.specs.declared.status.Status.TheVariants.{Memory}
 use Rattle.mm_call.specs.Standing.{StandsAt, cell_at, instance_by}
 use Rattle.mm_call.proofs.Above.{stands_at}
 use Rattle.mm_digest.specs.declared.variant.Variant.{Variant}

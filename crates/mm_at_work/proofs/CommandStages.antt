@@ -1,7 +1,7 @@
 -- The commands of the program are parts of a life, by what each does.
 use Rattle.std.proofs.Common.{◌≡◌, ◌∙◌, ℕ, List, [], ◌∷◌, Option, None, Some, Result, Ok, Err, refl, sym, ap, subst}
-use Rattle.mm_app.specs.Outside.{Outside, devices_of}
-use Rattle.mm_app.specs.Run.{FindsInstance, RunsInstance, SeesInstance, ServesIfFound, found_header, found_instance}
+use Rattle.mm_host_commands.specs.Outside.{Outside, devices_of}
+use Rattle.mm_host_commands.specs.Run.{FindsInstance, RunsInstance, SeesInstance, ServesIfFound, found_header, found_instance}
 use Rattle.mm_digest.specs.declared.variant.Variant.TheVariants.{Basic, Opt}
 use Rattle.mm_call.specs.Standing.{instance_by}
 use Rattle.mm_model.specs.Standing.{cell_of}
@@ -11,7 +11,7 @@ use Rattle.mm_platform.specs.declared.fault.StepFault.{StepFault}
 use Rattle.mm_seal.specs.Cell.{IsCell, cell_spelling}
 use Rattle.mm_seal.specs.CellLaws.{reads_cell-same}
 use Rattle.mm_seal.specs.declared.cell.Cell.{Cell as Held}
-use Rattle.mm_app.specs.declared.status.Status.{Status}
+use Rattle.mm_status.specs.declared.status.Status.{Status}
 use Rattle.mm_recovery.specs.FirstStart.{InitLeaves}
 use Rattle.mm_recovery.specs.declared.init_fault.InitFault.{InitFault}
 use Rattle.mm_digest.specs.declared.variant.Variant.{Variant}

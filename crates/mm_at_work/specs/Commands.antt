@@ -3,10 +3,10 @@ use Rattle.std.specs.Prelude.{◌≡◌, ◌⊎◌, ℕ, List, [], ◌∷◌, �
 use Rattle.std.specs.List.{AllByRecursion}
 use Rattle.std.specs.Option.{option_map}
 use Rattle.mm_app.specs.Commands.{DoesOrLacks, UsesPlatform}
-use Rattle.mm_app.specs.Outside.{Outside, devices_of}
-use Rattle.mm_app.specs.Run.{session_status}
-use Rattle.mm_app.specs.CommandOutput.{StopsAs, TellsStop}
-use Rattle.mm_app.specs.declared.status.Status.{Status}
+use Rattle.mm_host_commands.specs.Outside.{Outside, devices_of}
+use Rattle.mm_host_commands.specs.Run.{session_status}
+use Rattle.mm_status.specs.CommandOutput.{StopsAs, TellsStop}
+use Rattle.mm_status.specs.declared.status.Status.{Status}
 use Rattle.mm_call.specs.Standing.{instance_by}
 use Rattle.mm_digest.specs.declared.variant.Variant.{Variant}
 use Rattle.mm_host.specs.declared.fault.SessionFault.{SessionFault}

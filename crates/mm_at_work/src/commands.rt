@@ -1,7 +1,7 @@
 //! The commands of the program, composed.
 
 ghost use Rattle.std.specs.Prelude.{map};
-ghost use Rattle.mm_app.specs.Outside.{outside};
+ghost use Rattle.mm_host_commands.specs.Outside.{outside};
 ghost use Rattle.mm_words.specs.Commands.{SpellsCommand};
 ghost use Rattle.mm_words.specs.declared.command.CommandLine.{CommandLine};
 ghost use Rattle.mm_at_work.specs.CommandPromises.{BasicCommandsKeepPromises, OptCommandsKeepPromises};

@@ -1,7 +1,7 @@
 //! Commands of the program that a host has run, one after another.
 
 ghost use Rattle.std.specs.Prelude.{OnOk};
-ghost use Rattle.mm_app.specs.Outside.{outside};
+ghost use Rattle.mm_host_commands.specs.Outside.{outside};
 ghost use Rattle.mm_at_work.specs.CommandPromises.{LivesUnderHost};
 ghost use Rattle.mm_at_work.specs.Commands.{HaveRun, IsCommandRun};
 ghost use Rattle.mm_at_work.specs.Devices.{two_cells};

@@ -2,7 +2,7 @@ use Rattle.mm_app.proofs.Below.{◌≡◌, ◌∙◌, ℕ, List, Option, ap, map
 use Rattle.mm_app.proofs.Below.{one_command, BlamesSource, DoesOrLacks, Outside, outside, Status, Memory, StopsAs}
 use Rattle.mm_words.specs.declared.fault.WordsFault.{WordsFault}
 use Rattle.mm_words.specs.declared.fault.WordsFault.TheVariants as words
-use Rattle.mm_app.specs.Status.{words_status}
+use Rattle.mm_app.specs.WordsStatus.{words_status}
 use Rattle.mm_words.specs.Commands.{SpellsCommand}
 use Rattle.mm_app.proofs.Below.{Bulk, Run}
 use Rattle.mm_app.proofs.Blame.{Blamed, Frames, blamed}
@@ -12,7 +12,7 @@ use Rattle.mm_app.proofs.Holding.{Holding, spelled, spelled_where, unheld, unspe
 use Rattle.mm_app.proofs.HoldingAll.{holding, much}
 use Rattle.mm_app.proofs.NoUsage.{never_usage}
 use Rattle.mm_app.specs.StatusFacts.{CantRead, FindsBasic, MayBeLost, NeedsInstance, RunsShort, StartsOne}
-use Rattle.mm_app.specs.declared.status.Status.TheVariants.{Already, Blank, Cell, Kind, Lost, Refused, Short}
+use Rattle.mm_status.specs.declared.status.Status.TheVariants.{Already, Blank, Cell, Kind, Lost, Refused, Short}
 use Rattle.mm_seal.specs.Cell.{blank_cell}
 use Rattle.std.specs.Prelude.{◌≢◌}
 use Rattle.mm_app.proofs.Theorems.{headline_of, interleaved_by, moved_by}

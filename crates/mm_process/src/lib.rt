@@ -1,0 +1,11 @@
+//! The process round a program: its words, its input and output, the files of the current
+//! directory, its exit status, and why it stopped.
+#![tactic(auto)]
+
+mod devices;
+mod program;
+mod reasons;
+mod words;
+
+pub use devices::exit_status;
+pub use program::Program;
