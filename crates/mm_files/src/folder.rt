@@ -52,14 +52,17 @@ impl<F: Lock + OpenFile + FileExt + Drop> Folder<F> {
             return Ok(());
         }
         let folder = named(FileName::Here, fs::open(files, "."))?;
-        let outcome = self.enter_by(files, &folder);
-        if outcome.is_ok() {
-            self.lock = Some(folder);
-        } else {
-            self.register.close();
-            self.nv.close();
+        match self.enter_by(files, &folder) {
+            Ok(()) => {
+                self.lock = Some(folder);
+                Ok(())
+            }
+            Err(cause) => {
+                self.register.close();
+                self.nv.close();
+                Err(cause)
+            }
         }
-        outcome
     }
 
     // Does so by this folder, which was just opened.
@@ -89,12 +92,13 @@ impl<F: Lock + OpenFile + FileExt + Drop> Folder<F> {
     // Reads `nv`.
     fn read_whole<R: Files<File = F>>(&mut self, files: &R) -> Result<(), Cause> {
         self.enter(files)?;
-        self.nv.look(files)?;
-        let size = self.nv.size_within(WHOLE as u64)?;
-        settle(&mut self.nv, &self.lock)?;
+        self.nv.look(files);
+        let size = self.nv.size_within(WHOLE as u64);
+        settle(&mut self.nv, &self.lock);
         self.bytes = [0; WHOLE];
         let whole = &mut self.bytes[..];
-        self.nv.read(0, &mut whole[..size as usize])
+        self.nv.read(0, &mut whole[..size as usize]);
+        self.nv.outcome()
     }
 
     /// Writes these bytes of `nv` from `at` on, in place.
@@ -106,26 +110,18 @@ impl<F: Lock + OpenFile + FileExt + Drop> Folder<F> {
     ) -> Result<(), Cause> {
         self.is_seen = false;
         self.enter(files)?;
-        self.nv.look_or_make(files)?;
-        let _ = self.nv.size_within(WHOLE as u64)?;
-        self.nv.write(u64::from(at), bytes)?;
-        settle(&mut self.nv, &self.lock)
+        self.nv.look_or_make(files);
+        let _ = self.nv.size_within(WHOLE as u64);
+        self.nv.write(u64::from(at), bytes);
+        settle(&mut self.nv, &self.lock);
+        self.nv.outcome()
     }
 
     /// The register's value, zero where the file is absent.
     pub fn register<R: Files<File = F>>(&mut self, files: &R) -> Result<Digest, Cause> {
         self.enter(files)?;
-        self.register.look(files)?;
-        self.value()
-    }
-
-    // The value in the register's file.
-    fn value(&mut self) -> Result<Digest, Cause> {
-        self.register.refuse_other_size(32)?;
-        settle(&mut self.register, &self.lock)?;
-        let mut bytes = [0; 32];
-        self.register.read(0, &mut bytes)?;
-        Ok(Digest { bytes })
+        self.register.look(files);
+        value_in(&mut self.register, &self.lock)
     }
 
     /// Puts this value in place of the register's, whatever the file has. It is never seen in part:
@@ -137,28 +133,10 @@ impl<F: Lock + OpenFile + FileExt + Drop> Folder<F> {
     ) -> Result<(), Cause> {
         self.enter(files)?;
         self.register.close();
-        self.fill_new(files, &value.bytes)?;
-        self.rename_new(files)?;
-        settle(&mut self.register, &self.lock)
-    }
-
-    // Puts these bytes into the new file, whatever an earlier program left there.
-    fn fill_new<R: Files<File = F>>(&mut self, files: &R, bytes: &[u8]) -> Result<(), Cause> {
-        self.new_register.open_or_make(files)?;
-        self.new_register.cut(0)?;
-        self.new_register.write(0, bytes)?;
-        self.new_register.sync()
-    }
-
-    // Gives the new file the register's name, which isn't synced yet. The file stays open.
-    fn rename_new<R: Files<File = F>>(&mut self, files: &R) -> Result<(), Cause> {
-        let outcome = named(
-            FileName::Register,
-            fs::rename(files, "register.new", "register"),
-        );
-        self.new_register.ended(outcome)?;
-        self.register.take_from(&mut self.new_register);
-        Ok(())
+        fill(&mut self.new_register, files, &value.bytes)?;
+        rename(files, &mut self.new_register, &mut self.register)?;
+        settle(&mut self.register, &self.lock);
+        self.register.outcome()
     }
 
     /// Extends the register by a value. The file isn't looked at for that where it is open.
@@ -168,8 +146,8 @@ impl<F: Lock + OpenFile + FileExt + Drop> Folder<F> {
         value: &Digest,
     ) -> Result<(), Cause> {
         self.enter(files)?;
-        self.register.open(files)?;
-        let old = self.value()?;
+        self.register.open(files);
+        let old = value_in(&mut self.register, &self.lock)?;
         self.put_register(files, &extended(&old, value))
     }
 }
@@ -179,23 +157,67 @@ fn open_synced<R: Files>(kept: &mut KeptFile<R::File>, files: &R) -> Result<(), 
 where
     R::File: FileExt,
 {
-    kept.open(files)?;
-    kept.sync()
+    kept.open(files);
+    kept.sync();
+    kept.outcome()
 }
 
 // Lets a file's bytes and its name be on the disk, where this program didn't yet.
-fn settle<F: OpenFile + FileExt + Drop>(
+fn settle<F: OpenFile + FileExt + Drop>(kept: &mut KeptFile<F>, lock: &Option<F>) {
+    kept.sync();
+    if let Some(folder) = lock {
+        if kept.set_listed() {
+            kept.ended(named(FileName::Here, folder.sync_all()));
+        }
+    }
+}
+
+// The value in the register's file.
+fn value_in<F: OpenFile + FileExt + Drop>(
     kept: &mut KeptFile<F>,
     lock: &Option<F>,
-) -> Result<(), Cause> {
-    kept.sync()?;
-    match (&mut kept.opened, lock) {
-        (Some(opened), Some(folder)) if !opened.is_listed => {
-            opened.is_listed = true;
-            let outcome = named(FileName::Here, folder.sync_all());
-            kept.ended(outcome)
+) -> Result<Digest, Cause> {
+    let mut bytes = [0; 32];
+    kept.refuse_other_size(32);
+    settle(kept, lock);
+    kept.read(0, &mut bytes);
+    kept.outcome()?;
+    Ok(Digest { bytes })
+}
+
+// Puts these bytes into a new file, whatever an earlier program left there.
+fn fill<R: Files>(kept: &mut KeptFile<R::File>, files: &R, bytes: &[u8]) -> Result<(), Cause>
+where
+    R::File: FileExt,
+{
+    kept.open_or_make(files);
+    kept.cut(0);
+    kept.write(0, bytes);
+    kept.sync();
+    kept.outcome()
+}
+
+// Gives the new file the register's name, which isn't synced yet. The file stays open.
+fn rename<R: Files>(
+    files: &R,
+    new: &mut KeptFile<R::File>,
+    register: &mut KeptFile<R::File>,
+) -> Result<(), Cause>
+where
+    R::File: FileExt,
+{
+    match fs::rename(files, "register.new", "register") {
+        Ok(()) => {
+            register.take_from(new);
+            Ok(())
         }
-        _ => Ok(()),
+        Err(error) => {
+            new.close();
+            Err(Cause::System {
+                name: FileName::Register,
+                error,
+            })
+        }
     }
 }
 

@@ -1,6 +1,6 @@
 //! A file of the current directory that stays open. What answered `Ok` after a sync is on the disk.
 
-ghost use Rattle.std.specs.Prelude.{◌≤◌, IfOk};
+ghost use Rattle.std.specs.Prelude.{◌≤◌};
 
 use crate::cause::{Cause, named};
 use crate::name::FileName;
@@ -22,20 +22,36 @@ pub struct OpenedFile<F> {
     size: u64,
     // Whether this program let its bytes be on the disk.
     is_synced: bool,
-    /// Whether it did so with its name.
-    pub is_listed: bool,
+    // Whether it did so with its name.
+    is_listed: bool,
     /// Whether it was seen to be none of the program's other files.
     pub is_alone: bool,
 }
 
+impl<F> OpenedFile<F> {
+    // Whether it is what is seen there. From then on it has the size that is seen.
+    fn is_seen(&mut self, there: &io::Result<Sight>) -> bool {
+        match there {
+            Ok(there) if there.identity == self.identity => {
+                self.size = there.size;
+                true
+            }
+            _ => false,
+        }
+    }
+}
+
 /// The file of a name, which stays open from the first call on. Where a call on it failed it is
-/// closed, and what follows opens it anew. Where it is looked at, and others gave the name to
-/// another file, that one is opened. Where it isn't open nothing is read of it or done to it.
+/// closed, and what opens it next does so anew. Where it is looked at, and others gave the name to
+/// another file, that one is opened. Where it isn't open nothing is read of it or done to it: so
+/// calls follow one another, and behind the last `outcome` tells whether one failed.
 #[derive(Drop)]
 pub struct KeptFile<F> {
     name: FileName,
     /// The file where it is open.
     pub opened: Option<OpenedFile<F>>,
+    // Why a call on it failed, until `outcome` tells that.
+    failed: Option<Cause>,
 }
 
 /// Whether a file is made where it is opened: never, where it is absent, or anew, so that it is an
@@ -50,7 +66,11 @@ enum Making {
 impl<F: OpenFile + FileExt + Drop> KeptFile<F> {
     /// The file of this name, which isn't opened yet.
     pub fn new(name: FileName) -> KeptFile<F> {
-        KeptFile { name, opened: None }
+        KeptFile {
+            name,
+            opened: None,
+            failed: None,
+        }
     }
 
     /// Which file is open.
@@ -69,64 +89,67 @@ impl<F: OpenFile + FileExt + Drop> KeptFile<F> {
         }
     }
 
+    /// What came of the calls on the file since this was asked last.
+    pub fn outcome(&mut self) -> Result<(), Cause> {
+        match self.failed.take() {
+            Some(cause) => Err(cause),
+            None => Ok(()),
+        }
+    }
+
+    /// Whether there is no file, by calls that didn't fail.
+    pub fn is_absent(&self) -> bool {
+        self.opened.is_none() && self.failed.is_none()
+    }
+
     /// Opens the file, looked at. It stays closed where it is absent.
-    pub fn look<R: Files<File = F>>(&mut self, files: &R) -> Result<(), Cause> {
+    pub fn look<R: Files<File = F>>(&mut self, files: &R) {
         self.close_other(files);
-        self.open(files)
+        self.open(files);
     }
 
     /// Opens the file, looked at. Where it is absent an empty one is made.
-    pub fn look_or_make<R: Files<File = F>>(&mut self, files: &R) -> Result<(), Cause> {
+    pub fn look_or_make<R: Files<File = F>>(&mut self, files: &R) {
         self.close_other(files);
-        self.open_or_make(files)
+        self.open_or_make(files);
     }
 
     /// Opens the file where it isn't open. It stays closed where it is absent.
-    pub fn open<R: Files<File = F>>(&mut self, files: &R) -> Result<(), Cause> {
-        if self.opened.is_some() {
-            return Ok(());
-        }
-        match opened(files, self.name.text(), Making::Never) {
-            Err(error) if error.kind() == ErrorKind::NotFound => Ok(()),
-            outcome => self.keep(outcome),
+    pub fn open<R: Files<File = F>>(&mut self, files: &R) {
+        if self.opened.is_none() {
+            match opened(files, self.name.text(), Making::Never) {
+                Err(error) if error.kind() == ErrorKind::NotFound => {}
+                outcome => self.keep(outcome),
+            }
         }
     }
 
     /// Opens the file where it isn't open. Where it is absent an empty one is made.
-    pub fn open_or_make<R: Files<File = F>>(&mut self, files: &R) -> Result<(), Cause> {
-        if self.opened.is_some() {
-            return Ok(());
+    pub fn open_or_make<R: Files<File = F>>(&mut self, files: &R) {
+        if self.opened.is_none() {
+            self.keep(opened(files, self.name.text(), Making::WhereAbsent));
         }
-        self.keep(opened(files, self.name.text(), Making::WhereAbsent))
     }
 
     /// Makes an empty file at this path. An error where something is there: no link is followed.
-    pub fn make<R: Files<File = F>>(&mut self, files: &R, path: &str) -> Result<(), Cause> {
-        self.keep(opened(files, path, Making::Anew))
+    pub fn make<R: Files<File = F>>(&mut self, files: &R, path: &str) {
+        self.keep(opened(files, path, Making::Anew));
     }
 
     // Keeps the file that was opened. An error where it is no file.
-    fn keep(&mut self, outcome: io::Result<F>) -> Result<(), Cause> {
-        let file = named(self.name, outcome)?;
-        let there = look_at(&file, self.name)?;
-        self.opened = Some(OpenedFile {
-            file,
-            identity: there.identity,
-            size: there.size,
-            is_synced: false,
-            is_listed: false,
-            is_alone: false,
-        });
-        Ok(())
+    fn keep(&mut self, outcome: io::Result<F>) {
+        match looked_at(outcome, self.name) {
+            Ok(opened) => self.opened = Some(opened),
+            Err(cause) => self.failed = Some(cause),
+        }
     }
 
     // Closes the file where it isn't the one of the name any more. Otherwise it has the size that
     // it has now.
     fn close_other<R: Files<File = F>>(&mut self, files: &R) {
         if let Some(opened) = &mut self.opened {
-            match sight_at(files, self.name.text()) {
-                Ok(there) if there.identity == opened.identity => opened.size = there.size,
-                _ => self.opened = None,
+            if !opened.is_seen(&sight_at(files, self.name.text())) {
+                self.opened = None;
             }
         }
     }
@@ -141,97 +164,94 @@ impl<F: OpenFile + FileExt + Drop> KeptFile<F> {
         self.opened = None;
     }
 
+    /// A call on the file failed so: it is closed.
+    pub fn fail(&mut self, cause: Cause) {
+        self.opened = None;
+        self.failed = Some(cause);
+    }
+
     /// What came of a call on the file, which is closed where that failed.
-    pub fn ended(&mut self, outcome: Result<(), Cause>) -> Result<(), Cause> {
-        if outcome.is_err() {
-            self.opened = None;
+    pub fn ended(&mut self, outcome: Result<(), Cause>) {
+        if let Err(cause) = outcome {
+            self.fail(cause);
         }
-        outcome
     }
 
     /// Reads bytes from `at` on, as many as there is room for.
-    pub fn read(&mut self, at: u64, into: &mut [u8]) -> Result<(), Cause> {
-        match &self.opened {
-            Some(opened) => {
-                let outcome = named(self.name, opened.file.read_exact_at(into, at));
-                self.ended(outcome)
-            }
-            None => Ok(()),
+    pub fn read(&mut self, at: u64, into: &mut [u8]) {
+        if let Some(opened) = &self.opened {
+            let outcome = named(self.name, opened.file.read_exact_at(into, at));
+            self.ended(outcome);
         }
     }
 
     /// Writes these bytes from `at` on, in place.
-    pub fn write(&mut self, at: u64, bytes: &[u8]) -> Result<(), Cause> {
-        match &mut self.opened {
-            Some(opened) => {
-                opened.is_synced = false;
-                opened.size = opened.size.max(at.saturating_add(bytes.len() as u64));
-                let outcome = named(self.name, opened.file.write_all_at(bytes, at));
-                self.ended(outcome)
-            }
-            None => Ok(()),
+    pub fn write(&mut self, at: u64, bytes: &[u8]) {
+        if let Some(opened) = &mut self.opened {
+            opened.is_synced = false;
+            opened.size = opened.size.max(at.saturating_add(bytes.len() as u64));
+            let outcome = named(self.name, opened.file.write_all_at(bytes, at));
+            self.ended(outcome);
         }
     }
 
     /// Gives it this length, where it has another.
-    pub fn cut(&mut self, length: u64) -> Result<(), Cause> {
-        match &mut self.opened {
-            Some(opened) => {
-                opened.is_synced = false;
-                let size = opened.size;
+    pub fn cut(&mut self, length: u64) {
+        if let Some(opened) = &mut self.opened {
+            opened.is_synced = false;
+            if opened.size != length {
                 opened.size = length;
-                if size == length {
-                    return Ok(());
-                }
                 let outcome = named(self.name, opened.file.set_len(length));
-                self.ended(outcome)
+                self.ended(outcome);
             }
-            None => Ok(()),
         }
     }
 
     /// Lets its bytes be on the disk, where this program didn't yet.
-    pub fn sync(&mut self) -> Result<(), Cause> {
+    pub fn sync(&mut self) {
         match &mut self.opened {
             Some(opened) if !opened.is_synced => {
                 opened.is_synced = true;
                 let outcome = named(self.name, opened.file.sync_data());
-                self.ended(outcome)
+                self.ended(outcome);
             }
-            _ => Ok(()),
+            _ => {}
         }
     }
 
-    /// Says that its name is on the disk.
-    pub fn set_listed(&mut self) {
-        if let Some(opened) = &mut self.opened {
-            opened.is_listed = true;
+    /// Says that its name is on the disk, and answers whether that wasn't said yet.
+    pub fn set_listed(&mut self) -> bool {
+        match &mut self.opened {
+            Some(opened) if !opened.is_listed => {
+                opened.is_listed = true;
+                true
+            }
+            _ => false,
         }
     }
 
     /// Its size, at most this many bytes. A greater one is an error.
-    pub fn size_within(&mut self, most: u64) -> Result<u64, Cause>
-        ensures { IfOk result (λ size. size ≤ most) }
+    pub fn size_within(&mut self, most: u64) -> u64
+        ensures { result ≤ most }
     {
         let size = self.size();
         if size <= most {
-            return Ok(size);
+            return size;
         }
         let name = self.name;
-        self.close();
-        Err(Cause::Long { name, size, most })
+        self.fail(Cause::Long { name, size, most });
+        0
     }
 
     /// An error where it has another size than this.
-    pub fn refuse_other_size(&mut self, wanted: u64) -> Result<(), Cause> {
+    pub fn refuse_other_size(&mut self, wanted: u64) {
         match &self.opened {
             Some(opened) if opened.size != wanted => {
                 let size = opened.size;
                 let name = self.name;
-                self.close();
-                Err(Cause::Length { name, size, wanted })
+                self.fail(Cause::Length { name, size, wanted });
             }
-            _ => Ok(()),
+            _ => {}
         }
     }
 }
@@ -248,6 +268,23 @@ fn opened<R: Files>(files: &R, path: &str, making: Making) -> io::Result<R::File
         .create_new(is_new)
         .mode(OWNER_ALONE)
         .open(files, path)
+}
+
+// The file that was just opened, as it is seen. An error where it is none.
+fn looked_at<F: OpenFile + Drop>(
+    outcome: io::Result<F>,
+    name: FileName,
+) -> Result<OpenedFile<F>, Cause> {
+    let file = named(name, outcome)?;
+    let there = look_at(&file, name)?;
+    Ok(OpenedFile {
+        file,
+        identity: there.identity,
+        size: there.size,
+        is_synced: false,
+        is_listed: false,
+        is_alone: false,
+    })
 }
 
 // What is seen of a file that was just opened. An error where it is none, but a FIFO, a device or a

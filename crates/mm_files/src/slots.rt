@@ -121,35 +121,43 @@ impl<F: OpenFile + FileExt + Drop> Slot<F> {
     }
 
     // Opens the file, looked at for the first page. It stays closed where it is absent.
-    fn find<R: Files<File = F>>(&mut self, files: &R, page: u16) -> Result<(), Cause> {
+    fn find<R: Files<File = F>>(&mut self, files: &R, page: u16) {
         match page {
-            0 => self.kept.look(files)?,
-            _ => self.kept.open(files)?,
+            0 => self.kept.look(files),
+            _ => self.kept.open(files),
         }
-        self.refuse_others(files)
+        self.refuse_others(files);
     }
 
     // Opens the file, looked at for the first page. Where it is absent an empty one is made.
-    fn find_or_make<R: Files<File = F>>(&mut self, files: &R, page: u16) -> Result<(), Cause> {
-        self.find(files, page)?;
-        if self.kept.opened.is_some() {
-            return Ok(());
+    fn find_or_make<R: Files<File = F>>(&mut self, files: &R, page: u16) {
+        self.find(files, page);
+        if self.kept.is_absent() {
+            self.make(files);
         }
-        self.place.refuse_other(files)?;
-        self.kept.make(files, self.place.path())?;
-        self.refuse_others(files)
+    }
+
+    // Makes an empty file, where it is absent.
+    fn make<R: Files<File = F>>(&mut self, files: &R) {
+        match self.place.refuse_other(files) {
+            Ok(()) => {
+                self.kept.make(files, self.place.path());
+                self.refuse_others(files);
+            }
+            Err(cause) => self.kept.fail(cause),
+        }
     }
 
     // An error where the file is another of the program's.
-    fn refuse_others<R: Files<File = F>>(&mut self, files: &R) -> Result<(), Cause> {
+    fn refuse_others<R: Files<File = F>>(&mut self, files: &R) {
         match &mut self.kept.opened {
             Some(opened) if !opened.is_alone => {
                 opened.is_alone = true;
                 let identity = opened.identity;
                 let outcome = self.refuse_same(files, identity);
-                self.kept.ended(outcome)
+                self.kept.ended(outcome);
             }
-            _ => Ok(()),
+            _ => {}
         }
     }
 
@@ -168,8 +176,9 @@ impl<F: OpenFile + FileExt + Drop> Slot<F> {
     /// it is on the disk afterwards.
     pub fn length<R: Files<File = F>>(&mut self, files: &R) -> Result<u32, Cause> {
         if self.length.is_none() {
-            self.find(files, 0)?;
-            self.settle(files)?;
+            self.find(files, 0);
+            self.settle(files);
+            self.kept.outcome()?;
         }
         let length = self.length.unwrap_or(self.kept.size());
         Ok(u32::try_from(length).unwrap_or(u32::MAX))
@@ -183,10 +192,11 @@ impl<F: OpenFile + FileExt + Drop> Slot<F> {
         into: &mut [u8; 256],
     ) -> Result<(), Cause> {
         *into = [0; 256];
-        self.find(files, page)?;
+        self.find(files, page);
         let start = start_of(page);
         let (front, _) = into.split_at_mut(part_of(self.kept.size(), start));
-        self.kept.read(start, front)
+        self.kept.read(start, front);
+        self.kept.outcome()
     }
 
     /// Writes a page, in place. After an error the slot has the bytes of its file alone.
@@ -197,10 +207,11 @@ impl<F: OpenFile + FileExt + Drop> Slot<F> {
         bytes: &[u8; 256],
     ) -> Result<(), Cause> {
         let length = self.length.take().unwrap_or(0);
-        self.find_or_make(files, page)?;
+        self.find_or_make(files, page);
         let start = start_of(page);
         let (front, _) = bytes.split_at(size_set(bytes).max(part_of(self.kept.size(), start)));
-        self.kept.write(start, front)?;
+        self.kept.write(start, front);
+        self.kept.outcome()?;
         self.length = Some(self.kept.size().max(length).max(start + PAGE));
         Ok(())
     }
@@ -209,8 +220,9 @@ impl<F: OpenFile + FileExt + Drop> Slot<F> {
     /// where it has another. After an error the slot has the bytes of its file alone.
     pub fn set_length<R: Files<File = F>>(&mut self, files: &R, length: u64) -> Result<(), Cause> {
         self.length = None;
-        self.find_or_make(files, LATER)?;
-        self.kept.cut(length)
+        self.find_or_make(files, LATER);
+        self.kept.cut(length);
+        self.kept.outcome()
     }
 
     /// Lets the slot's bytes, in a file of their length, and its name be on the disk. An absent
@@ -219,20 +231,17 @@ impl<F: OpenFile + FileExt + Drop> Slot<F> {
         if let Some(length) = self.length {
             self.set_length(files, length)?;
         }
-        self.find(files, LATER)?;
-        self.settle(files)
+        self.find(files, LATER);
+        self.settle(files);
+        self.kept.outcome()
     }
 
     // Lets the file's bytes and its name be on the disk, where this program didn't yet.
-    fn settle<R: Files<File = F>>(&mut self, files: &R) -> Result<(), Cause> {
-        self.kept.sync()?;
-        match &mut self.kept.opened {
-            Some(opened) if !opened.is_listed => {
-                opened.is_listed = true;
-                let outcome = self.place.sync_name(files);
-                self.kept.ended(outcome)
-            }
-            _ => Ok(()),
+    fn settle<R: Files<File = F>>(&mut self, files: &R) {
+        self.kept.sync();
+        if self.kept.set_listed() {
+            let outcome = self.place.sync_name(files);
+            self.kept.ended(outcome);
         }
     }
 }

@@ -68,23 +68,23 @@ flight_begins slot flight what q begins may opens =
     })
 
 pub ask_begins : (slot : Parts) (asking : AskInFlight) → PartsFit slot → slot.flight ≡ None
-    → offered_bytes slot.seat.issued.items asking.offer ≡ Some asking.bytes → is_long (One asking.request) ≡ false
+    → offered_bytes slot.seat.issued.items asking.asked.offer ≡ Some asking.asked.bytes → is_long (One asking.asked.request) ≡ false
     → asking.call ≡ stage.Begun → length slot.seat.issued.items < vec_capacity slot.seat.issued
     → SlotComesTo slot (parts_with_flight slot (code.Asks asking))
-    (turn_by_action (instance_in slot) (slot_in slot) (action.Begin asking.offer asking.request)) Begun
+    (turn_by_action (instance_in slot) (slot_in slot) (action.Begin asking.asked.offer asking.asked.request)) Begun
 ask_begins slot asking fits none some short is room =
     let s = slot_in slot in
     let i = instance_in slot in
     let at = idle slot none fits in
-    let on : SlotTurn = turn_saying (tenant_with_flight s (first_flight (Asks asking.offer (One asking.request)))) Begun in
-    let opens : begin_turn i s asking.offer (One asking.request) (offered_bytes s.issued asking.offer) ≡ on = rw (some, short) refl in
+    let on : SlotTurn = turn_saying (tenant_with_flight s (first_flight (Asks asking.asked.offer (One asking.asked.request)))) Begun in
+    let opens : begin_turn i s asking.asked.offer (One asking.asked.request) (offered_bytes s.issued asking.asked.offer) ≡ on = rw (some, short) refl in
     let begins = asks_begun slot.seat.header.variant (meaning_of slot.seat.header.«module») (rising_bytes_from slot.number)
-    (rising_bytes_from (128 + slot.number)) (digests_in slot) slot.seat.platform at.0 at.1 asking.bytes (One asking.request) in
-    flight_begins slot (code.Asks asking) (action.Begin asking.offer asking.request) at.1
-    (subst (λ (call : OpStage BatchAnswer). IsInFlight (asks_so slot.seat.header.variant (meaning_of slot.seat.header.«module») asking.bytes
-    (One asking.request)) i (digests_in slot) slot.seat.platform call slot.seat.platform [] 1) (sym is) begins)
+    (rising_bytes_from (128 + slot.number)) (digests_in slot) slot.seat.platform at.0 at.1 asking.asked.bytes (One asking.asked.request) in
+    flight_begins slot (code.Asks asking) (action.Begin asking.asked.offer asking.asked.request) at.1
+    (subst (λ (call : OpStage BatchAnswer). IsInFlight (asks_so slot.seat.header.variant (meaning_of slot.seat.header.«module») asking.asked.bytes
+    (One asking.asked.request)) i (digests_in slot) slot.seat.platform call slot.seat.platform [] 1) (sym is) begins)
     (record { offered = some; short = short; room = room })
-    (sym (acts_idle slot (action.Begin asking.offer asking.request) none ∙ opens))
+    (sym (acts_idle slot (action.Begin asking.asked.offer asking.asked.request) none ∙ opens))
 
 pub close_begins : (slot : Parts) → PartsFit slot → slot.flight ≡ None
     → SlotComesTo slot (parts_with_flight slot (code.Closes (record { call = stage.Begun })))

@@ -57,6 +57,7 @@ pub use Rattle.mm_play.proofs.Above.{events_err, events_ok, plays_err, unrefused
 pub use Rattle.mm_slots.specs.Answers.{answer_text, answers_text, end_lines, IsSayable, slot_end_line}
 pub use Rattle.mm_slots.specs.Grammar.{action_at, event_at}
 pub use Rattle.mm_slots.specs.HeldParts.{call_in, SlotComesTo, digests_in, PartsFit, FitsCall, FitsFlight, flight_in, parts_with_flight}
+pub use Rattle.mm_slots.specs.HeldParts.{SlotTakes}
 pub use Rattle.mm_slots.specs.HeldParts.{SlotGoesOn, HasRegister, instance_in, CallEndsIn, SlotLacksMemory, SlotLosesPower, row_in, slot_in}
 pub use Rattle.mm_world.specs.Lengths.{within_64}
 pub use Rattle.mm_slots.specs.Laws.{SlotIsOneRun, SlotsAreAlone, SlotsRun}

@@ -12,5 +12,4 @@ mod Starting
 mod Totalling
 mod Progressing
 mod Growing
-mod Roomy
 mod Seeing

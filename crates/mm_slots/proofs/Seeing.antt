@@ -1,7 +1,7 @@
 -- What the parts of a slot come to, as contracts see the slot.
 use Rattle.mm_slots.proofs.Below.{◌≡◌, [], ◌∷◌, Result, Ok, Err, IfOk, OnErr, ◌<◌, ◌^◌, refl, sym, subst, SlotAction, SlotReply, Parts, Row}
-use Rattle.mm_slots.proofs.Below.{row_after, Tenant, Loses, turn_by_action, slot_in, instance_in, row_in, PartsFit, SlotGoesOn, SlotComesTo}
-use Rattle.mm_slots.proofs.Below.{SlotLacksMemory, SlotLosesPower, RowActs, RowLacksMemory, CanCount}
+use Rattle.mm_slots.proofs.Below.{row_after, Tenant, Loses, turn_by_action, slot_in, instance_in, row_in, PartsFit, SlotGoesOn, SlotTakes}
+use Rattle.mm_slots.proofs.Below.{SlotLosesPower, RowActs, RowLacksMemory, CanCount}
 use Rattle.mm_base.specs.declared.fault.Memory.{Memory}
 
 -- the row of a slot that went on
@@ -12,22 +12,20 @@ module _ (old new : Parts) (row : Row) (is : row_in old ≡ row) (what : SlotAct
   pub few_on : CanCount row → old.seat.committed < 2 ^ 63
   few_on few = subst CanCount (sym is) few
 
-  pub fits_on : (r : Result SlotReply Memory) → IfOk r (SlotComesTo old new (turn_by_action (instance_in old) (slot_in old) what))
-      → OnErr r (SlotLacksMemory what old new) → PartsFit new
-  fits_on (Ok said) c l = c.goes.fits
-  fits_on (Err memory) c l = l.goes.fits
+  pub fits_on : (r : Result SlotReply Memory) → SlotTakes what old new r → PartsFit new
+  fits_on (Ok said) c = c.goes.fits
+  fits_on (Err memory) l = l.goes.fits
 
-  pub acts_on : (r : Result SlotReply Memory) → IfOk r (SlotComesTo old new (turn_by_action (instance_in old) (slot_in old) what))
-      → IfOk r (RowActs what row (row_in new))
+  pub acts_on : (r : Result SlotReply Memory) → SlotTakes what old new r → IfOk r (RowActs what row (row_in new))
   acts_on (Ok said) c = subst (λ (x : Row). RowActs what x (row_in new) said) is (record {
     stands = row_on old new (turn_by_action (instance_in old) (slot_in old) what).slot c.goes c.stands;
     says = c.says;
     sayable = c.sayable;
   })
-  acts_on (Err memory) c = tt
+  acts_on (Err memory) l = tt
 
-  pub lacks_on : (r : Result SlotReply Memory) → OnErr r (SlotLacksMemory what old new) → OnErr r (RowLacksMemory what row (row_in new))
-  lacks_on (Ok said) l = tt
+  pub lacks_on : (r : Result SlotReply Memory) → SlotTakes what old new r → OnErr r (RowLacksMemory what row (row_in new))
+  lacks_on (Ok said) c = tt
   lacks_on (Err memory) l = subst (λ (x : Row). RowLacksMemory what x (row_in new)) is (record {
     same = row_on old new (slot_in new) l.goes refl;
     wants = l.wants;

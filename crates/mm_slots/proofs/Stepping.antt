@@ -37,8 +37,8 @@ use Rattle.mm_slots.proofs.Fitting.{Bounded}
 
 -- the next step of a call that asks, and of a checkpoint
 pub record AsksStep (slot : Parts) (it : AskInFlight) (new : Standing) (result : Result (FlightOutcome BatchAnswer) Memory) : Type 0 where
-  pub steps : FlightStepsAs (ask_operation slot.seat.header.variant (meaning_of slot.seat.header.«module») it.bytes (One it.request))
-      (TellsAsk (One it.request)) (write_step_of slot.seat.header.variant) it.call slot.seat.platform new result
+  pub steps : FlightStepsAs (ask_operation slot.seat.header.variant (meaning_of slot.seat.header.«module») it.asked.bytes (One it.asked.request))
+      (TellsAsk (One it.asked.request)) (write_step_of slot.seat.header.variant) it.call slot.seat.platform new result
   pub room : MayStepOn result new
 
 pub record ClosesStep (slot : Parts) (it : CheckpointInFlight) (new : Standing)
@@ -49,18 +49,18 @@ pub record ClosesStep (slot : Parts) (it : CheckpointInFlight) (new : Standing)
 asks_come : (slot : Parts) (it : AskInFlight) (new : Standing) (result : Result (FlightOutcome BatchAnswer) Memory)
     → (fits : PartsFit (parts_with_flight slot (code.Asks it))) → AsksStep slot it new result
     → (let h = slot.seat.header in let d = digests_in (parts_with_flight slot (code.Asks it)) in let p = next_plan slot.seat.platform in
-    StepComesTo (asks_so h.variant (meaning_of h.«module») it.bytes (One it.request)) (instance_in slot) d
-    (call_of slot (code.Asks it) fits).from (outcome_of_stopped_ask (instance_in slot) d slot.seat.issued.items p.meddles it.offer
-    (One it.request))
+    StepComesTo (asks_so h.variant (meaning_of h.«module») it.asked.bytes (One it.asked.request)) (instance_in slot) d
+    (call_of slot (code.Asks it) fits).from (outcome_of_stopped_ask (instance_in slot) d slot.seat.issued.items p.meddles it.asked.offer
+    (One it.asked.request))
     slot.seat.issued.items p.meddles (p.at + 1) new result)
 asks_come slot it new result fits s =
     let h = slot.seat.header in
     let f = call_of slot (code.Asks it) fits in
     let p = next_plan slot.seat.platform in
-    asks_stepped h.variant (meaning_of h.«module») it.bytes (One it.request) f.may.short it.call slot.seat.platform new result s.steps
+    asks_stepped h.variant (meaning_of h.«module») it.asked.bytes (One it.asked.request) f.may.short it.call slot.seat.platform new result s.steps
     s.room (rising_bytes_from slot.number) (rising_bytes_from (128 + slot.number)) (digests_in (parts_with_flight slot (code.Asks it)))
     f.from
-    slot.seat.issued.items p.meddles (p.at + 1) it.offer f.flies f.may.offered
+    slot.seat.issued.items p.meddles (p.at + 1) it.asked.offer f.flies f.may.offered
 
 closes_come : (slot : Parts) (it : CheckpointInFlight) (new : Standing) (result : Result (FlightOutcome Checkpointed) Memory)
     → (fits : PartsFit (parts_with_flight slot (code.Closes it))) → ClosesStep slot it new result
@@ -257,8 +257,8 @@ pub ask_broken : (how : CallBreak) (slot slot' : Parts) (it : AskInFlight) (keys
     (new : Standing) (n : ℕ) (called : CallReport)
     (said : SlotReply) → slot.flight ≡ None → slot.seat.committed < 2 ^ 63 → PartsFit (parts_with_flight slot (code.Asks it))
     → n ≡ number_of (write_step_of slot.seat.header.variant) it.call
-    → FlightBreaksAs (ask_operation slot.seat.header.variant (meaning_of slot.seat.header.«module») it.bytes (One it.request))
-    (TellsAsk (One it.request)) it.call slot.seat.platform new (stop_at how n) called
+    → FlightBreaksAs (ask_operation slot.seat.header.variant (meaning_of slot.seat.header.«module») it.asked.bytes (One it.asked.request))
+    (TellsAsk (One it.asked.request)) it.call slot.seat.platform new (stop_at how n) called
     → CallEndsIn called (left slot new keys tally bound) slot' said
     → (let p = next_plan slot.seat.platform in SlotComesTo (parts_with_flight slot (code.Asks it)) slot'
     (event_turn (instance_in slot) (slot_in (parts_with_flight slot (code.Asks it)))
@@ -267,11 +267,11 @@ ask_broken how slot slot' it keys tally bound new n called said none few fits is
     let h = slot.seat.header in
     let f = call_of slot (code.Asks it) fits in
     let p = next_plan slot.seat.platform in
-    let there = subst (λ (k : ℕ). FlightBreaksAs (ask_operation h.variant (meaning_of h.«module») it.bytes (One it.request))
-    (TellsAsk (One it.request)) it.call slot.seat.platform new (stop_at how k) called) (ask_next slot it n fits is) breaks in
-    let t = asks_broken_off h.variant (meaning_of h.«module») it.bytes (One it.request) f.may.short it.call slot.seat.platform new
+    let there = subst (λ (k : ℕ). FlightBreaksAs (ask_operation h.variant (meaning_of h.«module») it.asked.bytes (One it.asked.request))
+    (TellsAsk (One it.asked.request)) it.call slot.seat.platform new (stop_at how k) called) (ask_next slot it n fits is) breaks in
+    let t = asks_broken_off h.variant (meaning_of h.«module») it.asked.bytes (One it.asked.request) f.may.short it.call slot.seat.platform new
     (stop_at how (p.at + 1)) called there (rising_bytes_from slot.number) (rising_bytes_from (128 + slot.number))
-    (digests_in (parts_with_flight slot (code.Asks it))) f.from slot.seat.issued.items p.meddles (p.at + 1) it.offer f.flies f.may.offered
+    (digests_in (parts_with_flight slot (code.Asks it))) f.from slot.seat.issued.items p.meddles (p.at + 1) it.asked.offer f.flies f.may.offered
     (stopped_at how (p.at + 1)) in
     over_comes slot slot' (code.Asks it) keys tally bound f.from new (event_by (call_in (code.Asks it)) p.meddles (stop_at how (p.at + 1)))
     called

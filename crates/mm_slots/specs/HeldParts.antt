@@ -1,5 +1,6 @@
 -- The parts of a slot in code, and what they keep.
-use Rattle.std.specs.Prelude.{◌≡◌, ◌+◌, ◌<◌, ℕ, false, List, [], ◌∷◌, length, Option, None, Some, vec_capacity}
+use Rattle.std.specs.Prelude.{◌≡◌, ◌+◌, ◌<◌, ℕ, false, List, [], ◌∷◌, length, Option, None, Some, vec_capacity, Result, Ok, Err}
+use Rattle.mm_base.specs.declared.fault.Memory.{Memory}
 use Rattle.mm_module.specs.Batch.{One}
 use Rattle.mm_modules.specs.Modules.{meaning_of}
 use Rattle.mm_platform.specs.Standing.{Plan, Standing}
@@ -25,11 +26,12 @@ use Rattle.mm_slots.specs.Answers.{IsSayable}
 use Rattle.mm_world.specs.Seat.{EndsCall}
 use Rattle.mm_slots.specs.declared.event.SlotAction.{SlotAction}
 use Rattle.mm_slots.specs.Tenant.{Tenant, Flight, SlotCall, Asks, Closes, SlotTurn, ActionLacksMemory, tenant_instance, power_turn}
+use Rattle.mm_slots.specs.Tenant.{turn_by_action}
 use Rattle.mm_slots.specs.Table.{Row}
 
 -- what a call in flight asks
 abbrev pub call_in : CodeFlight → SlotCall
-call_in (code.Asks asking) = Asks asking.offer (One asking.request)
+call_in (code.Asks asking) = Asks asking.asked.offer (One asking.asked.request)
 call_in (code.Closes closing) = Closes
 
 -- its meddles, and its next step, are those of the platform's plan
@@ -69,7 +71,8 @@ abbrev pub SlotCallFlies : Header → Instance → Digests → Standing → Code
     → List Meddle → ℕ
     → Type 0
 SlotCallFlies header i d from (code.Asks it) now meddles next =
-    IsInFlight (asks_so header.variant (meaning_of header.«module») it.bytes (One it.request)) i d
+    IsInFlight
+    (asks_so header.variant (meaning_of header.«module») it.asked.bytes (One it.asked.request)) i d
     from it.call now meddles next
 SlotCallFlies header i d from (code.Closes it) now meddles next =
     IsInFlight checkpoint_kind i d from it.call now meddles next
@@ -84,7 +87,7 @@ pub record MayAsk (issued : List (List ℕ)) (capacity : ℕ) (offer : Offer)
 
 abbrev pub MayGoOn : List (List ℕ) → ℕ → CodeFlight → Type 0
 MayGoOn issued capacity (code.Asks asking) =
-    MayAsk issued capacity asking.offer asking.bytes asking.request
+    MayAsk issued capacity asking.asked.offer asking.asked.bytes asking.asked.request
 MayGoOn issued capacity (code.Closes closing) = Unit {0}
 
 -- A call is in flight, that was begun over a platform that stood so.
@@ -143,6 +146,12 @@ pub record SlotComesTo (old new : Parts) (it : SlotTurn) (said : SlotReply) : Ty
   pub stands : slot_in new ≡ it.slot
   pub says : it.said ≡ said ∷ []
   pub sayable : IsSayable said
+
+-- What was to happen in the slot has happened, and this was said; or memory was wanting for it.
+abbrev pub SlotTakes : SlotAction → Parts → Parts → Result SlotReply Memory → Type 0
+SlotTakes what old new (Ok said) =
+    SlotComesTo old new (turn_by_action (instance_in old) (slot_in old) what) said
+SlotTakes what old new (Err memory) = SlotLacksMemory what old new
 
 -- the slot lost its power
 pub record SlotLosesPower (old new : Parts) : Type 0 where

@@ -1,9 +1,6 @@
 -- The lines before the events of slots, as contracts see them.
-use Rattle.std.specs.Prelude.{◌≡◌, ℕ, true, false, List, [], Option, None, Some, Result, Ok, Err}
+use Rattle.std.specs.Prelude.{◌≡◌, ℕ, true, false, List, Option, None, Some, Result, Ok, Err}
 use Rattle.mm_base.specs.declared.fault.Memory.{Memory}
-use Rattle.mm_play.specs.declared.player.LineRefusal.TheVariants.{Bad, Much}
-use Rattle.mm_play.specs.declared.player.ReplyFault.{ReplyFault}
-use Rattle.mm_play.specs.declared.player.ReplyFault.TheVariants as fault
 use Rattle.mm_schedule.specs.declared.header.Header.{Header}
 use Rattle.mm_slots.specs.Stage.{OpeningStage, AtFirst, AtHeads, SlotsState, are_to_come, first_slots_state}
 use Rattle.mm_slots.specs.declared.heads.Heads.{Heads}
@@ -11,13 +8,6 @@ use Rattle.mm_slots.specs.declared.heads.Heads.{Heads}
 abbrev pub opening_in : Option Heads → OpeningStage
 opening_in None = AtFirst
 opening_in (Some heads) = AtHeads heads.count heads.headers.items
-
--- The first line names this number of slots, of which no header is read.
-abbrev pub BeginsHeads : Option ℕ → Result Heads ReplyFault → Type 0
-BeginsHeads found (Ok heads) = (found ≡ Some heads.count) × (heads.headers.items ≡ [])
-BeginsHeads found (Err fault.Memory) = Unit {0}
-BeginsHeads found (Err (fault.Refused Bad)) = found ≡ None
-BeginsHeads found (Err (fault.Refused Much)) = ⊥
 
 -- With one more header of so many slots others are to come, or these begin.
 abbrev pub AddsHead : (count : ℕ) (all : List Header) (count' : ℕ) (headers : List Header)

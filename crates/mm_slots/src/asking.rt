@@ -4,7 +4,7 @@ ghost use Rattle.std.specs.Prelude.{◌≡◌, IfOk};
 ghost use Rattle.mm_outcome.specs.EventOffers.{offered_bytes};
 
 use crate::event::CallBreak;
-use crate::flight::{AskInFlight, Flight};
+use crate::flight::{AskInFlight, AskedRequest, Flight};
 use crate::parts::{Parts, stop_at};
 use crate::said::SlotReply;
 use mm_ask::Ask;
@@ -12,8 +12,9 @@ use mm_base::{Bytes, Memory};
 use mm_machine::{OpCall, Operation};
 use mm_model::is_long;
 use mm_module::Batch;
+use mm_modules::AnyModule;
 use mm_outcome::{OfferedBytes, offered};
-use mm_schedule::{Cause, Offer, Reply};
+use mm_schedule::{Cause, Header, Offer, Reply};
 use mm_steps::{FlightOutcome, break_off, step};
 use std::alloc::Global;
 
@@ -31,10 +32,34 @@ fn bytes_offered(alloc: Global, issued: &[Bytes], offer: &Offer) -> Result<Optio
     }
 }
 
+impl AskedRequest {
+    ghost use Rattle.std.specs.Prelude.{◌≡◌, false};
+    ghost use Rattle.mm_model.specs.Long.{is_long};
+    ghost use Rattle.mm_module.specs.Batch.{One};
+    ghost use Rattle.mm_module.specs.Batches.{batch_of};
+
+    // The call that asks this of the header's module.
+    fn ask<'a>(&'a self, alloc: Global, header: &'a Header) -> Ask<'a, AnyModule>
+        requires { is_long (One self.now.request) ≡ false }
+        ensures variant { result.variant ≡ header.now.variant }
+        ensures module_ { result.«module».now ≡ header.now.«module» }
+        ensures offer { result.offer.now ≡ self.now.bytes }
+        ensures batch { batch_of result.batch ≡ One self.now.request }
+    {
+        Ask {
+            variant: header.variant,
+            alloc,
+            module: &header.module,
+            offer: self.bytes.as_slice(),
+            batch: Batch::One(self.request.as_slice()),
+        }
+    }
+}
+
 impl Parts {
-    ghost use Rattle.std.specs.Prelude.{◌≡◌, ◌<◌, ◌^◌, None, IfOk, OnErr, Some, vec_len, vec_capacity};
+    ghost use Rattle.std.specs.Prelude.{◌≡◌, ◌<◌, ◌^◌, None, Some, vec_len, vec_capacity};
     ghost use Rattle.mm_outcome.specs.EventOffers.{offered_bytes};
-    ghost use Rattle.mm_slots.specs.HeldParts.{instance_in, slot_in, parts_with_flight, PartsFit, SlotComesTo, SlotLacksMemory};
+    ghost use Rattle.mm_slots.specs.HeldParts.{instance_in, slot_in, parts_with_flight, PartsFit, SlotComesTo, SlotTakes};
     ghost use Rattle.mm_slots.specs.declared.event.SlotAction.{SlotAction};
     ghost use Rattle.mm_slots.specs.Tenant.{turn_by_action};
 
@@ -46,11 +71,7 @@ impl Parts {
         request: Bytes,
     ) -> Result<SlotReply, Memory>
         requires fits { PartsFit self.old }
-        ensures ok { IfOk result (SlotComesTo self.old self.new
-            (turn_by_action (instance_in self.old) (slot_in self.old)
-            (SlotAction.Begin offer request))) }
-        ensures err { OnErr result
-            (SlotLacksMemory (SlotAction.Begin offer request) self.old self.new) }
+        ensures { SlotTakes (SlotAction.Begin offer request) self.old self.new result }
     {
         if self.flight.is_some() {
             return Ok(SlotReply::Busy);
@@ -78,9 +99,11 @@ impl Parts {
         }
         self.fly(Flight::Asks(AskInFlight {
             call: OpCall::begin(),
-            offer,
-            bytes,
-            request,
+            asked: AskedRequest {
+                offer,
+                bytes,
+                request,
+            },
         }));
         SlotReply::Begun
     }
@@ -91,30 +114,12 @@ impl Parts {
         requires idle { self.old.flight ≡ None }
         requires fits { PartsFit (parts_with_flight self.old (Flight.Asks asking)) }
         requires few { self.old.seat.committed < 2 ^ 63 }
-        ensures ok { IfOk result
-            (SlotComesTo (parts_with_flight self.old (Flight.Asks asking)) self.new
-            (turn_by_action (instance_in self.old)
-            (slot_in (parts_with_flight self.old (Flight.Asks asking)))
-            SlotAction.Step)) }
-        ensures err { OnErr result
-            (SlotLacksMemory SlotAction.Step (parts_with_flight self.old (Flight.Asks asking))
-            self.new) }
+        ensures { SlotTakes SlotAction.Step (parts_with_flight self.old (Flight.Asks asking))
+            self.new result }
     {
-        let AskInFlight {
-            call,
-            offer,
-            bytes,
-            request,
-        } = asking;
+        let AskInFlight { call, asked } = asking;
         let header = self.seat.header;
-        let batch = Batch::One(request.as_slice());
-        let ask = Ask {
-            variant: header.variant,
-            alloc,
-            module: &header.module,
-            offer: bytes.as_slice(),
-            batch,
-        };
+        let ask = asked.ask(alloc, &header);
         let writes = ask.write_step();
         let seat = &mut self.seat;
         match step(&ask, &mut seat.platform, call, &mut seat.keys) {
@@ -125,12 +130,7 @@ impl Parts {
             Ok(FlightOutcome::Over(called)) => Ok(self.end(called)),
             Ok(FlightOutcome::Going(call)) => {
                 let next = u64::from(call.next_step(writes));
-                self.fly(Flight::Asks(AskInFlight {
-                    call,
-                    offer,
-                    bytes,
-                    request,
-                }));
+                self.fly(Flight::Asks(AskInFlight { call, asked }));
                 Ok(SlotReply::Going(next))
             }
         }
@@ -146,21 +146,9 @@ impl Parts {
             (slot_in (parts_with_flight self.old (Flight.Asks asking)))
             (SlotAction.Break how)) result }
     {
-        let AskInFlight {
-            call,
-            offer: _,
-            bytes,
-            request,
-        } = asking;
+        let AskInFlight { call, asked } = asking;
         let header = self.seat.header;
-        let batch = Batch::One(request.as_slice());
-        let ask = Ask {
-            variant: header.variant,
-            alloc,
-            module: &header.module,
-            offer: bytes.as_slice(),
-            batch,
-        };
+        let ask = asked.ask(alloc, &header);
         let stop = stop_at(how, call.next_step(ask.write_step()));
         let seat = &mut self.seat;
         let called = break_off(&ask, &mut seat.platform, call, stop, &mut seat.keys);

@@ -6,13 +6,19 @@ use mm_model::BatchAnswer;
 use mm_opt::Checkpointed;
 use mm_schedule::Offer;
 
-/// A call that asks a request, in flight: what it offers, and the bytes of that.
+/// What a call asks: what it offers, the bytes of that, and the request.
 #[derive(Drop)]
-pub struct AskInFlight {
-    pub call: OpCall<BatchAnswer>,
+pub struct AskedRequest {
     pub offer: Offer,
     pub bytes: Bytes,
     pub request: Bytes,
+}
+
+/// A call that asks a request, in flight.
+#[derive(Drop)]
+pub struct AskInFlight {
+    pub call: OpCall<BatchAnswer>,
+    pub asked: AskedRequest,
 }
 
 /// A checkpoint in flight.

@@ -26,7 +26,7 @@ mod totals;
 mod whole;
 
 pub use event::{CallBreak, SlotAction, SlotEvent};
-pub use flight::{AskInFlight, CheckpointInFlight, Flight};
+pub use flight::{AskInFlight, AskedRequest, CheckpointInFlight, Flight};
 pub use heads::Heads;
 pub use laws::{slots_are_alone, slots_are_runs, slots_go_on, slots_run, slots_tell_replies};
 pub use opening::SlotsHeading;

@@ -4,11 +4,10 @@ ghost use Rattle.std.specs.Prelude.{◌≡◌};
 ghost use Rattle.mm_slots.specs.Stage.{slots_heads};
 ghost use Rattle.mm_slots.specs.StageLaws.{openings_fall, openings_few};
 
-use crate::heading::{add_head, first_heads};
+use crate::heading::{take_first, take_head};
 use crate::heads::Heads;
 use crate::stage::SlotsStage;
-use mm_play::{Heading, LineRefusal, ReplyFault};
-use mm_schedule::read_head;
+use mm_play::{Heading, ReplyFault};
 use std::alloc::Global;
 use std::marker::Model;
 
@@ -43,19 +42,8 @@ impl Heading<SlotsStage> for SlotsHeading {
 
     fn take_line(&mut self, alloc: Global, line: &[u8]) -> Result<Option<SlotsStage>, ReplyFault> {
         match &mut self.heads {
-            None => {
-                self.heads = Some(first_heads(alloc, line)?);
-                Ok(None)
-            }
-            Some(heads) => {
-                let Some(header) = read_head(line) else {
-                    return Err(ReplyFault::Refused(LineRefusal::Bad));
-                };
-                match add_head(alloc, heads, header) {
-                    Ok(stage) => Ok(stage),
-                    Err(_) => Err(ReplyFault::Memory),
-                }
-            }
+            None => take_first(alloc, line, &mut self.heads),
+            Some(heads) => take_head(alloc, line, heads),
         }
     }
 

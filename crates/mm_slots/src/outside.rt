@@ -8,19 +8,14 @@ use mm_digest::Digest;
 use mm_schedule::Reply;
 
 impl Parts {
-    ghost use Rattle.std.specs.Prelude.{◌≡◌, None, IfOk, OnErr, IsSome};
-    ghost use Rattle.mm_slots.specs.HeldParts.{instance_in, slot_in, PartsFit, SlotComesTo, SlotLacksMemory, SlotLosesPower};
+    ghost use Rattle.std.specs.Prelude.{◌≡◌, None, IsSome};
+    ghost use Rattle.mm_slots.specs.HeldParts.{PartsFit, SlotTakes, SlotLosesPower};
     ghost use Rattle.mm_slots.specs.declared.event.SlotAction.{SlotAction};
-    ghost use Rattle.mm_slots.specs.Tenant.{turn_by_action};
 
     /// Others extend the register: now, or just before the next step of the call in flight.
     pub fn extend(&mut self, value: &Digest) -> Result<SlotReply, Memory>
         requires fits { PartsFit self.old }
-        ensures ok { IfOk result (SlotComesTo self.old self.new
-            (turn_by_action (instance_in self.old) (slot_in self.old)
-            (SlotAction.Extend value.now))) }
-        ensures err { OnErr result
-            (SlotLacksMemory (SlotAction.Extend value.now) self.old self.new) }
+        ensures { SlotTakes (SlotAction.Extend value.now) self.old self.new result }
     {
         match &self.flight {
             None => self.extend_now(value),
@@ -32,11 +27,7 @@ impl Parts {
     fn extend_now(&mut self, value: &Digest) -> Result<SlotReply, Memory>
         requires fits { PartsFit self.old }
         requires idle { self.old.flight ≡ None }
-        ensures ok { IfOk result (SlotComesTo self.old self.new
-            (turn_by_action (instance_in self.old) (slot_in self.old)
-            (SlotAction.Extend value.now))) }
-        ensures err { OnErr result
-            (SlotLacksMemory (SlotAction.Extend value.now) self.old self.new) }
+        ensures { SlotTakes (SlotAction.Extend value.now) self.old self.new result }
     {
         let reply = self.seat.extend(value)?;
         self.register = *self.seat.platform.register();
@@ -47,11 +38,7 @@ impl Parts {
     fn extend_next(&mut self, value: &Digest) -> Result<SlotReply, Memory>
         requires fits { PartsFit self.old }
         requires flies { IsSome self.old.flight }
-        ensures ok { IfOk result (SlotComesTo self.old self.new
-            (turn_by_action (instance_in self.old) (slot_in self.old)
-            (SlotAction.Extend value.now))) }
-        ensures err { OnErr result
-            (SlotLacksMemory (SlotAction.Extend value.now) self.old self.new) }
+        ensures { SlotTakes (SlotAction.Extend value.now) self.old self.new result }
     {
         self.seat.platform.meddle_next(value)?;
         Ok(SlotReply::Replied(Reply::Extended))
@@ -62,9 +49,10 @@ impl Parts {
         requires { PartsFit self.old }
         ensures { SlotLosesPower self.old self.new }
     {
-        self.seat.platform.lose_power();
-        self.seat.platform.end_plan();
-        self.register = *self.seat.platform.register();
+        let platform = &mut self.seat.platform;
+        platform.lose_power();
+        platform.end_plan();
+        self.register = *platform.register();
         self.flight = None;
     }
 }

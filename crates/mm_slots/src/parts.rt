@@ -35,8 +35,8 @@ pub fn stop_at(how: CallBreak, step: u8) -> Stop
 }
 
 impl Parts {
-    ghost use Rattle.std.specs.Prelude.{◌≡◌, ◌<◌, ◌^◌, IfOk, OnErr, IsSome, vec_len, vec_capacity};
-    ghost use Rattle.mm_slots.specs.HeldParts.{instance_in, slot_in, parts_with_flight, PartsFit, SlotComesTo, SlotLacksMemory, CallEndsIn};
+    ghost use Rattle.std.specs.Prelude.{◌≡◌, ◌<◌, ◌^◌, IsSome, vec_len, vec_capacity};
+    ghost use Rattle.mm_slots.specs.HeldParts.{instance_in, slot_in, parts_with_flight, PartsFit, SlotComesTo, SlotTakes, CallEndsIn};
     ghost use Rattle.mm_slots.specs.Tenant.{turn_by_action};
 
     /// Lets something happen in the slot. After want of memory nothing has changed, but that a call
@@ -44,9 +44,7 @@ impl Parts {
     pub fn act(&mut self, alloc: Global, action: SlotAction) -> Result<SlotReply, Memory>
         requires fits { PartsFit self.old }
         requires few { self.old.seat.committed < 2 ^ 63 }
-        ensures ok { IfOk result (SlotComesTo self.old self.new
-            (turn_by_action (instance_in self.old) (slot_in self.old) action)) }
-        ensures err { OnErr result (SlotLacksMemory action self.old self.new) }
+        ensures { SlotTakes action self.old self.new result }
     {
         match action {
             SlotAction::Begin { offer, request } => self.begin(alloc, offer, request),
@@ -62,9 +60,7 @@ impl Parts {
     fn step(&mut self, alloc: Global) -> Result<SlotReply, Memory>
         requires fits { PartsFit self.old }
         requires few { self.old.seat.committed < 2 ^ 63 }
-        ensures ok { IfOk result (SlotComesTo self.old self.new
-            (turn_by_action (instance_in self.old) (slot_in self.old) SlotAction.Step)) }
-        ensures err { OnErr result (SlotLacksMemory SlotAction.Step self.old self.new) }
+        ensures { SlotTakes SlotAction.Step self.old self.new result }
     {
         match self.flight.take() {
             None => Ok(SlotReply::Idle),

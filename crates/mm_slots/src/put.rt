@@ -6,7 +6,7 @@ ghost use Rattle.mm_slots.specs.Table.{PowerLost, Says};
 
 use crate::said::SlotReply;
 use crate::slot_number::SlotNumber;
-use mm_base::{Bytes, Memory, put_decimal};
+use mm_base::{Bytes, Memory, put_numbered};
 use mm_replay::put_reply;
 
 /// Puts what is said at the end, with its LF.
@@ -26,8 +26,7 @@ fn put_said(said: &SlotReply, into: &mut Bytes) -> Result<(), Memory>
 fn put_going(step: u64, into: &mut Bytes) -> Result<(), Memory>
     ensures { OnOk result (into.new ≡ into.old ++ slot_reply_text (SlotReply.Going step)) }
 {
-    into.append(b"going ")?;
-    put_decimal(into, step)?;
+    put_numbered(into, b"going ", step)?;
     into.push(b'\n')
 }
 
@@ -58,11 +57,8 @@ pub fn put_slot_end(
 ) -> Result<(), Memory>
     ensures { OnOk result (into.new ≡ into.old ++ slot_end_line slot committed issued) }
 {
-    into.append(b"end ")?;
-    slot.put(into)?;
-    into.push(b' ')?;
-    put_decimal(into, committed)?;
-    into.push(b' ')?;
-    put_decimal(into, u64::from(issued))?;
+    put_numbered(into, b"end ", slot.place() as u64)?;
+    put_numbered(into, b" ", committed)?;
+    put_numbered(into, b" ", u64::from(issued))?;
     into.push(b'\n')
 }

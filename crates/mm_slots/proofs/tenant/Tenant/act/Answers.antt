@@ -6,12 +6,12 @@ act-requires-clause-few c = few_on c.self.inside.parts c.self.inside.parts c.arg
 
 pub invariant_of-self : goal.invariant_of-self
 invariant_of-self c =
-    fits_on c.self.inside.parts c.act.new.self c.args.self.now c.self.view_is c.args.action c.act.result c.act.ensures.ok c.act.ensures.err
+    fits_on c.self.inside.parts c.act.new.self c.args.self.now c.self.view_is c.args.action c.act.result c.act.ensures
 
 pub returns-clause-ok : goal.returns-clause-ok
 returns-clause-ok c =
-    acts_on c.self.inside.parts c.act.new.self c.args.self.now c.self.view_is c.args.action c.act.result c.act.ensures.ok
+    acts_on c.self.inside.parts c.act.new.self c.args.self.now c.self.view_is c.args.action c.act.result c.act.ensures
 
 pub returns-clause-err : goal.returns-clause-err
 returns-clause-err c =
-    lacks_on c.self.inside.parts c.act.new.self c.args.self.now c.self.view_is c.args.action c.act.result c.act.ensures.err
+    lacks_on c.self.inside.parts c.act.new.self c.args.self.now c.self.view_is c.args.action c.act.result c.act.ensures
