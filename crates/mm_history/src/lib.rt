@@ -11,6 +11,6 @@ mod waymarks;
 
 pub use lists::HistoryLists;
 pub use marks::HistoryMarks;
-pub use messages::{anchored_message, joined, list_place};
+pub use messages::{anchored_message, joined, list_one, list_place};
 pub use naming::{is_named, names_are_decided};
 pub use waymarks::{SegmentStart, Waymark, Waymarks};

@@ -15,13 +15,20 @@ use mm_module::Batch;
 use mm_seal::Place;
 use std::alloc::Global;
 
+// Puts two byte lists at the end.
+fn append_both(bytes: &mut Bytes, first: &[u8], second: &[u8]) -> Result<(), Memory>
+    ensures { OnOk result (bytes.new ≡ bytes.old ++ (first.now ++ second.now)) }
+{
+    bytes.append(first)?;
+    bytes.append(second)
+}
+
 /// Two byte lists, one after the other.
 pub fn joined(alloc: Global, first: &[u8], second: &[u8]) -> Result<Bytes, Memory>
     ensures { IfOk result (λ bytes. bytes ≡ first.now ++ second.now) }
 {
     let mut bytes = Bytes::with_capacity(alloc, first.len() + second.len())?;
-    bytes.append(first)?;
-    bytes.append(second)?;
+    append_both(&mut bytes, first, second)?;
     Ok(bytes)
 }
 
@@ -31,8 +38,7 @@ fn tagged(alloc: Global, tag: u8, first: &[u8], second: &[u8]) -> Result<Bytes, 
 {
     let mut bytes = Bytes::with_capacity(alloc, 33 + second.len())?;
     bytes.push(tag)?;
-    bytes.append(first)?;
-    bytes.append(second)?;
+    append_both(&mut bytes, first, second)?;
     Ok(bytes)
 }
 
@@ -63,8 +69,8 @@ fn guard_message(alloc: Global, barrier: &[u8; 32], batch: Batch<'_>) -> Result<
     }
 }
 
-// Lists a message, if there was memory for it.
-fn list_one(message: Result<Bytes, Memory>, messages: &mut Vec<Bytes>) -> Result<(), Memory>
+/// Lists a message, if there was memory for it.
+pub fn list_one(message: Result<Bytes, Memory>, messages: &mut Vec<Bytes>) -> Result<(), Memory>
     ensures { (text : List ℕ) → IfOk message (λ bytes. bytes ≡ text)
         → OnOk result (messages.new.items ≡ messages.old.items ++ text ∷ []) }
 {
