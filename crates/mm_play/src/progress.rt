@@ -64,10 +64,10 @@ impl<S: PlayStage + Drop> Progress<S> {
         }
     }
 
-    /// Puts the reply to an event line at the end, as text. `LineRefusal::Much` comes exactly where it is event
-    /// 20,001, or where the event lines and what is kept have more than 268,435,456 bytes; it isn't
-    /// played then. After a refusal nothing has changed. After want of memory the line isn't
-    /// counted, and the stage is as `PlayStage::play` leaves it then.
+    /// Puts the reply to an event line at the end, as text. `LineRefusal::Much` comes exactly where
+    /// it is event 20,001, or where the event lines and what is kept have more than 268,435,456
+    /// bytes; it isn't played then. After a refusal nothing has changed. After want of memory the
+    /// line isn't counted, and the stage is as `PlayStage::play` leaves it then.
     pub fn put_reply(
         &mut self,
         alloc: Global,

@@ -77,12 +77,14 @@ ask_begins slot asking fits none some short is room =
     let i = instance_in slot in
     let at = idle slot none fits in
     let on : SlotTurn = turn_saying (tenant_with_flight s (first_flight (Asks asking.asked.offer (One asking.asked.request)))) Begun in
-    let opens : begin_turn i s asking.asked.offer (One asking.asked.request) (offered_bytes s.issued asking.asked.offer) ≡ on = rw (some, short) refl in
+    let opens : begin_turn i s asking.asked.offer (One asking.asked.request) (offered_bytes s.issued asking.asked.offer) ≡ on =
+    rw (some, short) refl in
     let begins = asks_begun slot.seat.header.variant (meaning_of slot.seat.header.«module») (rising_bytes_from slot.number)
     (rising_bytes_from (128 + slot.number)) (digests_in slot) slot.seat.platform at.0 at.1 asking.asked.bytes (One asking.asked.request) in
     flight_begins slot (code.Asks asking) (action.Begin asking.asked.offer asking.asked.request) at.1
-    (subst (λ (call : OpStage BatchAnswer). IsInFlight (asks_so slot.seat.header.variant (meaning_of slot.seat.header.«module») asking.asked.bytes
-    (One asking.asked.request)) i (digests_in slot) slot.seat.platform call slot.seat.platform [] 1) (sym is) begins)
+    (subst (λ (call : OpStage BatchAnswer). IsInFlight
+    (asks_so slot.seat.header.variant (meaning_of slot.seat.header.«module») asking.asked.bytes (One asking.asked.request)) i (digests_in slot)
+    slot.seat.platform call slot.seat.platform [] 1) (sym is) begins)
     (record { offered = some; short = short; room = room })
     (sym (acts_idle slot (action.Begin asking.asked.offer asking.asked.request) none ∙ opens))
 

@@ -37,7 +37,8 @@ use Rattle.mm_slots.proofs.Fitting.{Bounded}
 
 -- the next step of a call that asks, and of a checkpoint
 pub record AsksStep (slot : Parts) (it : AskInFlight) (new : Standing) (result : Result (FlightOutcome BatchAnswer) Memory) : Type 0 where
-  pub steps : FlightStepsAs (ask_operation slot.seat.header.variant (meaning_of slot.seat.header.«module») it.asked.bytes (One it.asked.request))
+  pub steps : FlightStepsAs
+      (ask_operation slot.seat.header.variant (meaning_of slot.seat.header.«module») it.asked.bytes (One it.asked.request))
       (TellsAsk (One it.asked.request)) (write_step_of slot.seat.header.variant) it.call slot.seat.platform new result
   pub room : MayStepOn result new
 
@@ -57,9 +58,9 @@ asks_come slot it new result fits s =
     let h = slot.seat.header in
     let f = call_of slot (code.Asks it) fits in
     let p = next_plan slot.seat.platform in
-    asks_stepped h.variant (meaning_of h.«module») it.asked.bytes (One it.asked.request) f.may.short it.call slot.seat.platform new result s.steps
-    s.room (rising_bytes_from slot.number) (rising_bytes_from (128 + slot.number)) (digests_in (parts_with_flight slot (code.Asks it)))
-    f.from
+    asks_stepped h.variant (meaning_of h.«module») it.asked.bytes (One it.asked.request) f.may.short it.call slot.seat.platform new
+    result s.steps s.room (rising_bytes_from slot.number) (rising_bytes_from (128 + slot.number))
+    (digests_in (parts_with_flight slot (code.Asks it))) f.from
     slot.seat.issued.items p.meddles (p.at + 1) it.asked.offer f.flies f.may.offered
 
 closes_come : (slot : Parts) (it : CheckpointInFlight) (new : Standing) (result : Result (FlightOutcome Checkpointed) Memory)
@@ -269,10 +270,10 @@ ask_broken how slot slot' it keys tally bound new n called said none few fits is
     let p = next_plan slot.seat.platform in
     let there = subst (λ (k : ℕ). FlightBreaksAs (ask_operation h.variant (meaning_of h.«module») it.asked.bytes (One it.asked.request))
     (TellsAsk (One it.asked.request)) it.call slot.seat.platform new (stop_at how k) called) (ask_next slot it n fits is) breaks in
-    let t = asks_broken_off h.variant (meaning_of h.«module») it.asked.bytes (One it.asked.request) f.may.short it.call slot.seat.platform new
-    (stop_at how (p.at + 1)) called there (rising_bytes_from slot.number) (rising_bytes_from (128 + slot.number))
-    (digests_in (parts_with_flight slot (code.Asks it))) f.from slot.seat.issued.items p.meddles (p.at + 1) it.asked.offer f.flies f.may.offered
-    (stopped_at how (p.at + 1)) in
+    let t = asks_broken_off h.variant (meaning_of h.«module») it.asked.bytes (One it.asked.request) f.may.short it.call slot.seat.platform
+    new (stop_at how (p.at + 1)) called there (rising_bytes_from slot.number) (rising_bytes_from (128 + slot.number))
+    (digests_in (parts_with_flight slot (code.Asks it))) f.from slot.seat.issued.items p.meddles (p.at + 1) it.asked.offer f.flies
+    f.may.offered (stopped_at how (p.at + 1)) in
     over_comes slot slot' (code.Asks it) keys tally bound f.from new (event_by (call_in (code.Asks it)) p.meddles (stop_at how (p.at + 1)))
     called
     said none few t ends
