@@ -83,8 +83,8 @@ ask_begins slot asking fits none some short is room =
     (rising_bytes_from (128 + slot.number)) (digests_in slot) slot.seat.platform at.0 at.1 asking.asked.bytes (One asking.asked.request) in
     flight_begins slot (code.Asks asking) (action.Begin asking.asked.offer asking.asked.request) at.1
     (subst (λ (call : OpStage BatchAnswer). IsInFlight
-    (asks_so slot.seat.header.variant (meaning_of slot.seat.header.«module») asking.asked.bytes (One asking.asked.request)) i (digests_in slot)
-    slot.seat.platform call slot.seat.platform [] 1) (sym is) begins)
+    (asks_so slot.seat.header.variant (meaning_of slot.seat.header.«module») asking.asked.bytes (One asking.asked.request)) i
+    (digests_in slot) slot.seat.platform call slot.seat.platform [] 1) (sym is) begins)
     (record { offered = some; short = short; room = room })
     (sym (acts_idle slot (action.Begin asking.asked.offer asking.asked.request) none ∙ opens))
 

@@ -236,7 +236,8 @@ pub takes_value : (header : Header) (i : Instance) (d : Digests) (from : Standin
     → SlotCallFlies header i d from flight new (meddled meddles next value) next
 takes_value header i d from (code.Asks it) now new meddles next value f e =
     flight_takes_in (asks_so header.variant (meaning_of header.«module») it.asked.bytes (One it.asked.request)) i d from it.call
-    now new meddles next value f e (subst (MayStep it.call) (sym e) (may_planned it.call now (option_map (plan_with_meddle value) now.plan) f.room))
+    now new meddles next value f e
+    (subst (MayStep it.call) (sym e) (may_planned it.call now (option_map (plan_with_meddle value) now.plan) f.room))
 takes_value header i d from (code.Closes it) now new meddles next value f e =
     flight_takes_in checkpoint_kind i d from it.call now new meddles next value f e
     (subst (MayStep it.call) (sym e) (may_planned it.call now (option_map (plan_with_meddle value) now.plan) f.room))
