@@ -1,5 +1,10 @@
 -- A schedule followed by lists goes on by its events.
-use Rattle.mm_expect.proofs.Below.{◌≡◌, ℕ, List, [], ◌∷◌, ◌++◌, refl, sym, ap, ◌∙◌, option_to_list, Variant, Basic, Opt, AnyModule}
+use Rattle.mm_expect.proofs.Below.{◌≡◌, ◌≤◌, ◌+◌, ℕ, List, [], ◌∷◌, ◌++◌, length, arith, Option, None, Some}
+use Rattle.mm_expect.proofs.Below.{subst, chronicle_instance, refl, sym, ap, ◌∙◌, option_to_list, Variant, Basic, Opt, AnyModule}
+use Rattle.mm_expect.specs.declared.expecting.ExpectedOutcome.{ExpectedOutcome}
+use Rattle.std.proofs.Common.{length-append}
+use Rattle.mm_expect.specs.HeardEvent.{HearsEvent}
+use Rattle.mm_expect.specs.NumberedMessages.{numbered_event_messages}
 use Rattle.mm_expect.proofs.Below.{meaning_of, Instance, History, first_history, list_level, instance_by, Header, Event, Outcome}
 use Rattle.mm_expect.proofs.Below.{event_outcome, RunOutcome, outcome_by_lists, first_snapshots, world_of, world_key, world_barrier}
 use Rattle.mm_expect.proofs.Below.{goes_on, EventReply, ChronicleGoesByEvent, ChronicleView, ListedChronicle, instance_with, ExpectedState}
@@ -48,3 +53,18 @@ event_state {old} {issued = issued} {event = event} comes kept =
       history = (comes.state ∙ ap (λ (o : Outcome History). o.state) same) j;
       issued = (kept ∙ sym comes.issued_is ∙ ap (λ (o : Outcome History). o.issued) same) j;
     }
+
+-- what is heard of it
+pub event_heard : {old new : ListedChronicle} {issued : List (List ℕ)} {event : Event} {said : EventReply} {heard : ExpectedOutcome}
+    → ChronicleGoesByEvent old new issued event said → old.messages ≡ [] → heard.reply ≡ said.reply → heard.messages.items ≡ new.messages
+    → HearsEvent (world_of (header_of old.at)) old.at.history issued event heard
+event_heard {old} {issued = issued} {event = event} {heard = heard} comes none reply listed =
+    subst (λ (i : Instance). HearsEvent i old.at.history issued event heard) (instance_is (header_of old.at)) (record {
+      reply = reply ∙ comes.reply;
+      messages = listed ∙ comes.messages ∙ ap (λ (l : List (List ℕ)). l
+          ++ numbered_event_messages (chronicle_instance old.at) old.at.history issued event) none;
+    })
+
+pub grown_one : (old new : List (List ℕ)) (o : Option (List ℕ)) → new ≡ old ++ option_to_list o → length new ≤ length old + 1
+grown_one old new None is = omega (arith, ap length is, length-append old [])
+grown_one old new (Some x) is = omega (arith, ap length is, length-append old (x ∷ []))

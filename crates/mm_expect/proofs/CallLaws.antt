@@ -1,11 +1,22 @@
 -- Where the snapshot of an answer stands, by the marks; and a call in a schedule, by its parts.
-use Rattle.mm_expect.proofs.Below.{ℕ, ◌≡◌, Bool, true, false, List, [], ◌++◌, refl, sym, ap, ◌∙◌, append_assoc, option_to_list, Variant}
+use Rattle.mm_expect.proofs.Below.{ℕ, ◌≡◌, Bool, true, false, List, [], ◌∷◌, ◌++◌, refl, sym, ap, ◌∙◌, append_assoc, option_to_list, Variant}
 use Rattle.mm_expect.proofs.Below.{Opt, zero_bytes, Meddle, Stop, Batch, InOpt, Instance, History, cell_digest_of, issued_place, digest_of}
 use Rattle.mm_expect.proofs.Below.{AskResult, Answered, Refused, Broken, CallOutcome, right_content, list_level, state_after_moves, way_of}
 use Rattle.mm_expect.proofs.Below.{reply_of, snapshots_of, moves_after_call, moves_after_stop, HistoryMarks, EventReply, ChronicleCalls}
 use Rattle.mm_expect.proofs.Below.{ending_of, ChronicleGoesByCall, call_outcome_on, listed_chronicle, moves_if, marks_of, ChronicleView, ChronicleGoes}
 use Rattle.mm_expect.proofs.Below.{instance_with, chronicle_instance}
+use Rattle.mm_expect.proofs.Below.{append-nil, None, course_of, Closes, Stops}
+use Rattle.mm_call.specs.Checkpoints.{CheckpointOutcome, checkpoint_outcome}
+use Rattle.mm_digest.specs.Messages.{anchored_message}
+use Rattle.mm_model.specs.History.{register_value_of}
+use Rattle.mm_expect.specs.ChronicleView.{extension_messages, segment_closing_messages}
 use Rattle.mm_digest.specs.declared.digest.Digest.{Digest}
+use Rattle.mm_expect.specs.declared.calls.ClosingResult.{ClosingResult}
+use Rattle.mm_expect.specs.declared.calls.ClosingResult.TheVariants.{HasNone, NoSegment, LostPower}
+use Rattle.mm_expect.specs.Closings.{ending_of_closing, is_broken_off, ChronicleGoesByCheckpoint}
+use Rattle.mm_expect.specs.ChronicleEvents.{ChronicleGoesByEvent}
+use Rattle.mm_outcome.specs.Folds.{closing_reply, moves_after_checkpoint}
+use Rattle.mm_schedule.specs.Events.{Checkpoint}
 use Rattle.mm_call.specs.CallPremises.{right_messages}
 use Rattle.mm_call.specs.EndedCall.{is_broken}
 
@@ -69,3 +80,79 @@ went_by_call {old} {went} {handed} {new} {stop} {meddles} {bytes} {b} {ended} {f
       snapshots = sealed ∙ ap snapshots_of calls.ends;
       messages = handed_on ∙ (λ j. listed j ++ (calls.went.extending j ++ calls.went.closing j)) ∙ append_assoc front right _;
     }
+
+-- a checkpoint in a schedule
+
+moves_closed : (stop : Stop) (closing : ClosingResult) → moves_if (is_broken_off closing) (moves_after_stop stop)
+    ≡ moves_after_checkpoint stop (ending_of_closing closing)
+moves_closed stop Closes = refl
+moves_closed stop HasNone = refl
+moves_closed stop NoSegment = refl
+moves_closed stop LostPower = refl
+moves_closed stop (Stops fault closed) = refl
+
+pub went_by_checkpoint : {old went handed new : ChronicleView} {stop : Stop} {meddles : List Meddle} {issued front back : List (List ℕ)}
+    {closing : ClosingResult} {said : EventReply}
+    → (let i : Instance = chronicle_instance old in
+    ChronicleGoesByCheckpoint (forgotten old) went (checkpoint_outcome i (list_level i) old.history (course_of stop meddles)) closing)
+    → handed.history ≡ went.history → handed.variant ≡ went.variant → handed.«module» ≡ went.«module»
+    → back ≡ front ++ (went.extending ++ went.closing)
+    → ChronicleGoes handed new (moves_if (is_broken_off closing) (moves_after_stop stop))
+    → said ≡ record { reply = closing_reply (way_of stop) (ending_of_closing closing); snapshot = None }
+    → ChronicleGoesByEvent (listed_chronicle old front) (listed_chronicle new back) issued (Checkpoint meddles stop) said
+went_by_checkpoint {old} {went} {handed} {new} {stop} {meddles} {issued} {front} {back} {closing} {said} comes hh hv hm listed restored
+    replied =
+    let i : Instance = chronicle_instance old in
+    let o : CheckpointOutcome History = checkpoint_outcome i (list_level i) old.history (course_of stop meddles) in
+    let v : handed.variant ≡ old.variant = hv ∙ comes.went.variant in
+    let m : handed.«module» ≡ old.«module» = hm ∙ comes.went.«module» in
+    let h : handed.history ≡ o.state = hh ∙ comes.went.history in
+    let moves : moves_if (is_broken_off closing) (moves_after_stop stop) ≡ moves_after_checkpoint stop o.ending =
+    moves_closed stop closing ∙ ap (moves_after_checkpoint stop) comes.ends in
+    record {
+      variant = restored.variant ∙ v;
+      «module» = restored.«module» ∙ m;
+      state = restored.history ∙ (λ j. state_after_moves (list_level (instance_with (v j) (m j))) (h j) (moves j));
+      reply = ap (λ (r : EventReply). r.reply) replied ∙ ap (closing_reply (way_of stop)) comes.ends;
+      issued_is = sym (append-nil issued) ∙ ap (λ (r : EventReply). issued ++ option_to_list r.snapshot) (sym replied);
+      messages = listed ∙ (λ j. front ++ (comes.went.extending j ++ comes.went.closing j));
+    }
+
+-- the messages that a chronicle lists
+
+pub told_extension : {r old : ChronicleView} {marks : HistoryMarks} {listed : List (List ℕ)} (value : List ℕ) → r ≡ old → r.variant ≡ Opt
+    → marks ≡ marks_of (chronicle_instance r) r.history → listed ≡ r.extending ++ (marks.register.bytes ++ value) ∷ []
+    → record r { extending = listed } ≡ record old {
+      extending = old.extending
+          ++ extension_messages old.variant (register_value_of (chronicle_instance old) old.history) value;
+    }
+told_extension {r} {listed = listed} value same opt marks e =
+    let i : Instance = chronicle_instance r in
+    let all : listed ≡ r.extending ++ extension_messages r.variant (register_value_of i r.history) value =
+    e ∙ ap (λ (m : HistoryMarks). r.extending ++ (m.register.bytes ++ value) ∷ []) marks
+    ∙ ap (λ (v : Variant). r.extending ++ extension_messages v (register_value_of i r.history) value) (sym opt) in
+    (λ j. record r { extending = all j })
+    ∙ ap (λ (o : ChronicleView). record o {
+      extending = o.extending ++ extension_messages o.variant (register_value_of (chronicle_instance o) o.history) value;
+    }) same
+
+pub told_closing : {r old : ChronicleView} {marks : HistoryMarks} {listed : List (List ℕ)} → r ≡ old → r.variant ≡ Opt
+    → marks ≡ marks_of (chronicle_instance r) r.history
+    → listed ≡ r.closing ++ anchored_message marks.cell.bytes marks.register.bytes ∷ []
+    → record r { closing = listed } ≡ record old {
+      closing = old.closing
+          ++ segment_closing_messages old.variant (cell_digest_of (chronicle_instance old) old.variant old.history)
+          (register_value_of (chronicle_instance old) old.history);
+    }
+told_closing {r} {listed = listed} same opt marks e =
+    let i : Instance = chronicle_instance r in
+    let all : listed ≡ r.closing ++ segment_closing_messages r.variant (cell_digest_of i r.variant r.history)
+    (register_value_of i r.history) =
+    e ∙ ap (λ (m : HistoryMarks). r.closing ++ anchored_message m.cell.bytes m.register.bytes ∷ []) marks
+    ∙ ap (λ (v : Variant). r.closing ++ segment_closing_messages v (cell_digest_of i r.variant r.history)
+    (register_value_of i r.history)) (sym opt) in
+    (λ j. record r { closing = all j })
+    ∙ ap (λ (o : ChronicleView). record o {
+      closing = o.closing ++ segment_closing_messages o.variant (cell_digest_of (chronicle_instance o) o.variant o.history)
+          (register_value_of (chronicle_instance o) o.history);
+    }) same

@@ -229,6 +229,13 @@ module _ {variant : Variant} {«module» : AnyModule} {barrier : List ℕ} {y : 
   kept_more {ways} {new} s more = kept_by s.settled
       (more (subst (λ (b : List ℕ). AreWaymarks variant (meaning_of «module») b y ways) s.barrier_is s.ways_are))
 
+  pub kept_then : {ways new : Waymarks} → IsSettled variant «module» barrier y marks state said
+      → AreWaymarks variant (meaning_of «module») barrier y ways
+      → (marks ≡ marks_of (instance_with variant «module») y → AreWaymarks variant (meaning_of «module») (barrier_of variant) y ways
+      → AreWaymarks variant (meaning_of «module») (barrier_of variant) y new)
+      → IsKept variant «module» barrier y marks state said new
+  kept_then s w more = kept_more (record { settled = s; ways_are = w }) (more s.marks_is)
+
 pub first_ends : {y : History} → y ≡ first_history → EndsWithCurrent y
 first_ends e = record { done = []; is = ap (λ (h : History). h.batches) e ∙ sym (ap (λ (h : History). h.current) e) }
 

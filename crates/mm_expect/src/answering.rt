@@ -1,6 +1,6 @@
 //! What a call answers.
 
-ghost use Rattle.std.specs.Prelude.{◌≡◌, IfOk};
+ghost use Rattle.std.specs.Prelude.{◌≡◌, [], IfOk, OnOk};
 ghost use Rattle.mm_base.specs.Limits.{last_position};
 
 use crate::chronicle::Chronicle;
@@ -12,17 +12,26 @@ use mm_module::{Batch, Module, Outputs};
 use mm_seal::{Body, Place, SealingKey};
 use std::alloc::Global;
 
-// The same outputs.
-fn copy_of(alloc: Global, outputs: &Outputs) -> Result<Outputs, Memory>
-    ensures { IfOk result (λ copy. copy ≡ outputs.now) }
+// Puts the same outputs where there are none.
+fn copy_into(alloc: Global, copy: &mut Outputs, outputs: &Outputs) -> Result<(), Memory>
+    requires { copy.old ≡ [] }
+    ensures { OnOk result (copy.new ≡ outputs.now) }
 {
-    let mut copy = Outputs::new(alloc);
     'outputs: for i in 0..outputs.len() {
         if let Some(output) = outputs.get(i) {
             let one = Bytes::copy_of(alloc, output)?;
             copy.push(one)?;
         }
     }
+    Ok(())
+}
+
+// The same outputs.
+fn copy_of(alloc: Global, outputs: &Outputs) -> Result<Outputs, Memory>
+    ensures { IfOk result (λ copy. copy ≡ outputs.now) }
+{
+    let mut copy = Outputs::new(alloc);
+    copy_into(alloc, &mut copy, outputs)?;
     Ok(copy)
 }
 

@@ -5,13 +5,14 @@ ghost use Rattle.std.specs.Prelude.{◌≡◌};
 use mm_base::{Bytes, Memory};
 use mm_call::{BatchRun, run_batch};
 use mm_digest::{Digest, Variant, zero};
-use mm_history::{HistoryLists, HistoryMarks, Waymarks, anchored_message, joined};
+use mm_history::{HistoryLists, HistoryMarks, Waymarks, anchored_message, joined, list_one};
 use mm_model::guard;
 use mm_module::{Batch, Module, Outputs};
 use mm_modules::AnyModule;
 use mm_outcome::world_barrier;
 use std::alloc::Global;
 use std::marker::Model;
+use std::mem;
 
 /// A history as lists, and beside it what would take long to find again. Contracts see the variant,
 /// the module and the history, and the messages of the moves since they were last taken out.
@@ -135,11 +136,13 @@ impl Chronicle {
               (register_value_of (chronicle_instance self.old) self.old.history) value.now.bytes;
         }) }
     {
-        if let Variant::Opt = self.variant {
-            let message = joined(self.alloc, &self.marks.register.bytes, &value.bytes)?;
-            self.extending.push(message)?;
+        match self.variant {
+            Variant::Basic => Ok(()),
+            Variant::Opt => list_one(
+                joined(self.alloc, &self.marks.register.bytes, &value.bytes),
+                &mut self.extending,
+            ),
         }
-        Ok(())
     }
 
     /// Others put a value into the register.
@@ -179,11 +182,13 @@ impl Chronicle {
               (register_value_of (chronicle_instance self.old) self.old.history);
         }) }
     {
-        if let Variant::Opt = self.variant {
-            let message = anchored_message(self.alloc, &self.marks.cell, &self.marks.register)?;
-            self.closing.push(message)?;
+        match self.variant {
+            Variant::Basic => Ok(()),
+            Variant::Opt => list_one(
+                anchored_message(self.alloc, &self.marks.cell, &self.marks.register),
+                &mut self.closing,
+            ),
         }
-        Ok(())
     }
 
     /// The open segment is closed.
@@ -195,13 +200,6 @@ impl Chronicle {
         let is_bare = self.lists.is_bare();
         self.lists.close()?;
         self.marks = self.marks.closed(self.variant, has_value, is_bare);
-        self.keep_stage()
-    }
-
-    // Keeps the place where the next segment begins.
-    fn keep_stage(&mut self) -> Result<(), Memory>
-        ensures { self.new ≡ self.old }
-    {
         self.waymarks.keep_stage(&self.lists, &self.marks)
     }
 
@@ -224,52 +222,62 @@ impl Chronicle {
         ensures { OnOk result
             (ChronicleGoes self.old self.new (Commit (batch_of batch.entry) ∷ [])) }
     {
-        let ran = run_batch(self.alloc, &self.module, self.state.as_slice(), batch)?;
         let size = batch.len() as u64;
         if size > u64::MAX - self.marks.total {
             return Err(Memory);
         }
-        match self.variant {
-            Variant::Basic => self.link(batch, size, ran)?,
-            Variant::Opt => {
-                if self.lists.is_open() {
-                    self.grow(batch, size, ran)?
-                } else {
-                    self.begin_segment(batch, size, ran)?
-                }
-            }
-        }
+        self.run(batch, size)?;
         self.keep_position()
     }
 
+    // A batch of this size is run and committed, whose position isn't kept yet.
+    fn run(&mut self, batch: Batch<'_>, size: u64) -> Result<(), Memory>
+        requires short { is_long (batch_of batch) ≡ false }
+        requires size { size ≡ size_of (batch_of batch) }
+        requires fits { total_of self.old.history.batches + size < 2 ^ 64 }
+        ensures { OnOk result
+            (ChronicleGoes self.old self.new (Commit (batch_of batch.entry) ∷ [])) }
+    {
+        let mut ran = run_batch(self.alloc, &self.module, self.state.as_slice(), batch)?;
+        match self.variant {
+            Variant::Basic => self.link(batch, size, &mut ran),
+            Variant::Opt => {
+                if self.lists.is_open() {
+                    self.grow(batch, size, &mut ran)
+                } else {
+                    self.begin_segment(batch, size, &mut ran)
+                }
+            }
+        }
+    }
+
     // Basic: a batch of this size is committed, which ran so.
-    fn link(&mut self, batch: Batch<'_>, size: u64, ran: BatchRun) -> Result<(), Memory>
+    fn link(&mut self, batch: Batch<'_>, size: u64, ran: &mut BatchRun) -> Result<(), Memory>
         requires variant { self.old.variant ≡ Basic }
         requires short { is_long (batch_of batch) ≡ false }
         requires size { size ≡ size_of (batch_of batch) }
         requires fits { total_of self.old.history.batches + size < 2 ^ 64 }
-        requires state { ran.state ≡ state_after_batch self.old (batch_of batch) }
-        requires said { ran.outputs ≡ outputs_of_batch self.old (batch_of batch) }
+        requires state { ran.old.state ≡ state_after_batch self.old (batch_of batch) }
+        requires said { ran.old.outputs ≡ outputs_of_batch self.old (batch_of batch) }
         ensures { OnOk result
             (ChronicleGoes self.old self.new (Commit (batch_of batch.entry) ∷ [])) }
     {
         self.lists.add(batch)?;
         self.marks = self.marks.linked(batch, size);
-        let BatchRun { state, outputs } = ran;
-        self.state = state;
-        self.said = outputs;
+        mem::swap(&mut self.state, &mut ran.state);
+        mem::swap(&mut self.said, &mut ran.outputs);
         Ok(())
     }
 
     // Opt, inside a segment: likewise.
-    fn grow(&mut self, batch: Batch<'_>, size: u64, ran: BatchRun) -> Result<(), Memory>
+    fn grow(&mut self, batch: Batch<'_>, size: u64, ran: &mut BatchRun) -> Result<(), Memory>
         requires variant { self.old.variant ≡ Opt }
         requires inside { self.old.history.is_open ≡ true }
         requires short { is_long (batch_of batch) ≡ false }
         requires size { size ≡ size_of (batch_of batch) }
         requires fits { total_of self.old.history.batches + size < 2 ^ 64 }
-        requires state { ran.state ≡ state_after_batch self.old (batch_of batch) }
-        requires said { ran.outputs ≡ outputs_of_batch self.old (batch_of batch) }
+        requires state { ran.old.state ≡ state_after_batch self.old (batch_of batch) }
+        requires said { ran.old.outputs ≡ outputs_of_batch self.old (batch_of batch) }
         ensures { OnOk result
             (ChronicleGoes self.old self.new (Commit (batch_of batch.entry) ∷ [])) }
     {
@@ -283,15 +291,15 @@ impl Chronicle {
         &mut self,
         batch: Batch<'_>,
         size: u64,
-        ran: BatchRun,
+        ran: &mut BatchRun,
         value: &Digest,
     ) -> Result<(), Memory>
         requires variant { self.old.variant ≡ Opt }
         requires short { is_long (batch_of batch) ≡ false }
         requires size { size ≡ size_of (batch_of batch) }
         requires fits { total_of self.old.history.batches + size < 2 ^ 64 }
-        requires state { ran.state ≡ state_after_batch self.old (batch_of batch) }
-        requires said { ran.outputs ≡ outputs_of_batch self.old (batch_of batch) }
+        requires state { ran.old.state ≡ state_after_batch self.old (batch_of batch) }
+        requires said { ran.old.outputs ≡ outputs_of_batch self.old (batch_of batch) }
         requires guards { value.now.bytes
             ≡ guard (chronicle_instance self.old).barrier (batch_of batch) }
         ensures { OnOk result
@@ -301,21 +309,25 @@ impl Chronicle {
     {
         self.lists.add_inside(batch)?;
         self.marks = self.marks.grown(size, value);
-        let BatchRun { state, outputs } = ran;
-        self.state = state;
-        self.said = outputs;
+        mem::swap(&mut self.state, &mut ran.state);
+        mem::swap(&mut self.said, &mut ran.outputs);
         Ok(())
     }
 
     // Opt, with no segment open: likewise.
-    fn begin_segment(&mut self, batch: Batch<'_>, size: u64, ran: BatchRun) -> Result<(), Memory>
+    fn begin_segment(
+        &mut self,
+        batch: Batch<'_>,
+        size: u64,
+        ran: &mut BatchRun,
+    ) -> Result<(), Memory>
         requires variant { self.old.variant ≡ Opt }
         requires outside { self.old.history.is_open ≡ false }
         requires short { is_long (batch_of batch) ≡ false }
         requires size { size ≡ size_of (batch_of batch) }
         requires fits { total_of self.old.history.batches + size < 2 ^ 64 }
-        requires state { ran.state ≡ state_after_batch self.old (batch_of batch) }
-        requires said { ran.outputs ≡ outputs_of_batch self.old (batch_of batch) }
+        requires state { ran.old.state ≡ state_after_batch self.old (batch_of batch) }
+        requires said { ran.old.outputs ≡ outputs_of_batch self.old (batch_of batch) }
         ensures { OnOk result
             (ChronicleGoes self.old self.new (Commit (batch_of batch.entry) ∷ [])) }
     {
@@ -324,9 +336,8 @@ impl Chronicle {
         self.lists.open(batch)?;
         let register = self.lists.register(&self.barrier);
         self.marks = self.marks.opened(size, &value, register, is_alone);
-        let BatchRun { state, outputs } = ran;
-        self.state = state;
-        self.said = outputs;
+        mem::swap(&mut self.state, &mut ran.state);
+        mem::swap(&mut self.said, &mut ran.outputs);
         Ok(())
     }
 }

@@ -57,11 +57,15 @@ impl Chronicle {
     ghost use Rattle.mm_expect.specs.ChronicleView.{ChronicleGoes};
     ghost use Rattle.mm_expect.specs.ChronicleSteps.{move_of, model_step_of, steps_of, IsShortMove, IsShortStep, AreShort, ChronicleWalks};
 
-    // A move of the core is made.
-    fn make(&mut self, action: &ChronicleMove<'_>) -> Result<(), Memory>
+    // A move of the core is made where its step has its effect.
+    fn make(&mut self, is_made: bool, action: &ChronicleMove<'_>) -> Result<(), Memory>
         requires { IsShortMove action.now }
-        ensures { OnOk result (ChronicleGoes self.old self.new (move_of action.now ∷ [])) }
+        ensures { OnOk result
+            (ChronicleGoes self.old self.new (made_move is_made (move_of action.now))) }
     {
+        if !is_made {
+            return Ok(());
+        }
         match *action {
             ChronicleMove::Commit(batch) => self.commit(batch),
             ChronicleMove::Place(batch) => self.place(batch),
@@ -71,15 +75,6 @@ impl Chronicle {
             }
             ChronicleMove::Close => self.close(),
         }
-    }
-
-    // A move is made where its step has its effect.
-    fn make_if(&mut self, is_made: bool, action: &ChronicleMove<'_>) -> Result<(), Memory>
-        requires { IsShortMove action.now }
-        ensures { OnOk result
-            (ChronicleGoes self.old self.new (made_move is_made (move_of action.now))) }
-    {
-        if is_made { self.make(action) } else { Ok(()) }
     }
 
     // What others put into the register just before the step of this number.
@@ -114,10 +109,10 @@ impl Chronicle {
             ChronicleStep::Reads => self.bring_due(course, number),
             ChronicleStep::Changes(action) => {
                 self.bring_due(course, number)?;
-                self.make_if(is_made, action)
+                self.make(is_made, action)
             }
             ChronicleStep::Writes(action) => {
-                self.make_if(is_made, action)?;
+                self.make(is_made, action)?;
                 self.bring_due(course, number)
             }
         }

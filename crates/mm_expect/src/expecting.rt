@@ -285,19 +285,28 @@ fn follow(
     }
 }
 
-// Keeps the snapshot that was handed out, if one was.
-fn keep(issued: &mut Vec<Bytes>, snapshot: Option<Bytes>) -> Result<(), Memory>
-    ensures { OnOk result (issued.new.items ≡ issued.old.items ++ option_to_list snapshot) }
+// Keeps the snapshot that was handed out, if one was, and hands the reply on.
+fn keep(issued: &mut Vec<Bytes>, said: EventReply) -> Result<Reply, Memory>
+    ensures reply { IfOk result (λ reply. reply ≡ said.reply) }
+    ensures issued { OnOk result (issued.new.items
+        ≡ issued.old.items ++ option_to_list said.snapshot) }
 {
-    if let Some(snapshot) = snapshot {
-        issued.push(snapshot)?;
+    let EventReply { reply, snapshot } = said;
+    match snapshot {
+        None => Ok(reply),
+        Some(snapshot) => match issued.push(snapshot) {
+            Ok(()) => Ok(reply),
+            Err(_) => Err(Memory),
+        },
     }
-    Ok(())
 }
 
 impl Expectation {
-    ghost use Rattle.std.specs.Prelude.{◌≡◌, ◌<◌, ◌≤◌, ◌+◌, ◌^◌, [], length, IfOk, OnOk};
+    ghost use Rattle.std.specs.Prelude.{◌≡◌, ◌<◌, ◌≤◌, ◌+◌, ◌^◌, ◌++◌, [], ◌∷◌, length, IfOk, OnOk};
+    ghost use Rattle.mm_base.specs.Limits.{last_position};
     ghost use Rattle.mm_model.specs.History.{total_of};
+    ghost use Rattle.mm_model.specs.Standing.{issued_bytes};
+    ghost use Rattle.mm_expect.specs.ChronicleView.{instance_with};
     ghost use Rattle.mm_schedule.specs.Events.{event_of};
     ghost use Rattle.mm_schedule.specs.Replies.{IsPrintable};
     ghost use Rattle.mm_outcome.specs.WorldState.{world_of};
@@ -310,17 +319,40 @@ impl Expectation {
         ensures first { IfOk result (λ it. it ≡ first_expected_state header.now) }
         ensures after { IfOk result (IsAfter header.now []) }
     {
-        let mut key = SealingKey::new(&world_key());
         let chronicle = Chronicle::new(alloc, header.variant, header.module)?;
-        let snapshot = chronicle.snapshot(&mut key)?;
-        let mut issued = Vec::new(alloc);
-        issued.push(snapshot)?;
-        Ok(Expectation {
+        let mut expecting = Expectation::over(alloc, chronicle);
+        expecting.issue()?;
+        Ok(expecting)
+    }
+
+    // One over a history of which nothing is issued.
+    fn over(alloc: Global, chronicle: Chronicle) -> Expectation
+        ensures { result ≡ record {
+          header = record { variant = chronicle.variant; «module» = chronicle.«module» };
+          history = chronicle.history;
+          issued = [];
+        } }
+    {
+        Expectation {
             alloc,
-            key,
+            key: SealingKey::new(&world_key()),
             chronicle,
-            issued,
-        })
+            issued: Vec::new(alloc),
+        }
+    }
+
+    // Issues the snapshot at which the history stands.
+    fn issue(&mut self) -> Result<(), Memory>
+        requires { total_of self.old.history.batches ≤ last_position }
+        ensures { OnOk result (self.new ≡ record self.old {
+          issued = self.old.issued
+              ++ issued_bytes (instance_with self.old.header.variant self.old.header.«module»)
+              self.old.history ∷ [];
+        }) }
+    {
+        let snapshot = self.chronicle.snapshot(&mut self.key)?;
+        self.issued.push(snapshot)?;
+        Ok(())
     }
 
     /// Follows one event. After want of memory nothing is said of what stands.
@@ -336,14 +368,14 @@ impl Expectation {
         ensures grows { OnOk result (length self.new.issued ≤ length self.old.issued + 1) }
     {
         let mut messages = Vec::new(self.alloc);
-        let EventReply { reply, snapshot } = follow(
+        let said = follow(
             &mut self.chronicle,
             &mut self.key,
             self.issued.as_slice(),
             event,
             &mut messages,
         )?;
-        keep(&mut self.issued, snapshot)?;
+        let reply = keep(&mut self.issued, said)?;
         Ok(ExpectedOutcome { reply, messages })
     }
 
