@@ -7,7 +7,7 @@ ghost use Rattle.mm_gen.specs.Sums.{counts_after_reply, no_counts, total};
 use mm_schedule::Reply;
 
 /// How many replies there are of each kind.
-#[derive(Clone, Copy, Debug, PartialEq, Eq)]
+#[derive(Clone, Copy)]
 pub struct ReplyCounts {
     pub ok: u32,
     pub again: u32,

@@ -7,7 +7,7 @@ use mm_base::Memory;
 use thiserror::Error;
 
 /// Why a schedule was not run to its end.
-#[derive(Clone, Copy, Debug, PartialEq, Eq, Error)]
+#[derive(Clone, Copy, Debug, Error)]
 pub enum BulkFault {
     /// Want of memory.
     #[error("out of memory")]

@@ -10,7 +10,7 @@ use mm_schedule::put_end;
 use std::alloc::Global;
 
 /// What came of a schedule.
-#[derive(Clone, Copy, Debug, PartialEq, Eq)]
+#[derive(Clone, Copy)]
 pub struct Summary {
     pub counts: ReplyCounts,
     /// How many requests were committed.
@@ -27,12 +27,22 @@ pub fn summary_text(alloc: Global, events: u32, it: &Summary) -> Result<Bytes, M
     ensures { IfOk result (λ text. text ≡ bulk_text events it.now) }
 {
     let mut text = Bytes::new(alloc);
-    put_events(&mut text, events)?;
-    put_told_counts(&mut text, &it.counts)?;
-    put_other_counts(&mut text, &it.counts)?;
-    put_end(it.committed, it.issued, &mut text)?;
-    put_replies(alloc, &mut text, &it.replies)?;
-    Ok(text)
+    match put_summary(alloc, events, it, &mut text) {
+        Ok(()) => Ok(text),
+        Err(memory) => Err(memory),
+    }
+}
+
+/// Puts the five lines at the end.
+fn put_summary(alloc: Global, events: u32, it: &Summary, into: &mut Bytes) -> Result<(), Memory>
+    ensures { OnOk result (into.new ≡ into.old ++ bulk_text events it.now) }
+{
+    put_events(into, events)?;
+    put_told_counts(into, &it.counts)?;
+    put_other_counts(into, &it.counts)?;
+    put_end(it.committed, it.issued, into)?;
+    put_replies(alloc, into, &it.replies)?;
+    Ok(())
 }
 
 fn put_events(into: &mut Bytes, events: u32) -> Result<(), Memory>
