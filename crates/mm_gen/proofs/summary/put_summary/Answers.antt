@@ -5,7 +5,8 @@ use Rattle.mm_gen.proofs.summary.put_summary.Goals as goal
 
 -- five lines put one after another
 five_lines : (a b c d e old one two three four five : List ℕ) → one ≡ old ++ a ++ 10 ∷ [] → two ≡ one ++ b ++ 10 ∷ []
-    → three ≡ two ++ c ++ 10 ∷ [] → four ≡ three ++ d ++ 10 ∷ [] → five ≡ four ++ e ++ 10 ∷ [] → five ≡ old ++ joined_lines (a ∷ b ∷ c ∷ d ∷ e ∷ [])
+    → three ≡ two ++ c ++ 10 ∷ [] → four ≡ three ++ d ++ 10 ∷ [] → five ≡ four ++ e ++ 10 ∷ []
+    → five ≡ old ++ joined_lines (a ∷ b ∷ c ∷ d ∷ e ∷ [])
 five_lines a b c d e old one two three four five is1 is2 is3 is4 is5 = rw (is5, is4, is3, is2, is1) (simp append_assoc refl)
 
 -- the last line of the replies
