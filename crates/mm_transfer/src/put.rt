@@ -90,6 +90,15 @@ pub fn put_answer(which: SideChoice, reply: &MoveReply, into: &mut Bytes) -> Res
     put_move(reply, into)
 }
 
+// Puts a word, a number, a space and a number at the end.
+fn put_pair(word: &[u8], first: u64, second: u64, into: &mut Bytes) -> Result<(), Memory>
+    ensures { OnOk result
+        (into.new ≡ into.old ++ (word.now ++ decimal first ++ 32 ∷ decimal second)) }
+{
+    put_numbered(into, word, first)?;
+    put_numbered(into, b" ", second)
+}
+
 /// Puts the line `end N K0 K1 T` at the end: so many requests were committed, so many snapshots
 /// issued on each side, and so many tickets.
 pub fn put_end(
@@ -101,9 +110,7 @@ pub fn put_end(
 ) -> Result<(), Memory>
     ensures { OnOk result (into.new ≡ into.old ++ end_line committed first second tickets) }
 {
-    put_numbered(into, b"end ", committed)?;
-    put_numbered(into, b" ", u64::from(first))?;
-    put_numbered(into, b" ", u64::from(second))?;
-    put_numbered(into, b" ", u64::from(tickets))?;
+    put_pair(b"end ", committed, u64::from(first), into)?;
+    put_pair(b" ", u64::from(second), u64::from(tickets), into)?;
     into.push(b'\n')
 }

@@ -120,13 +120,16 @@ impl Sides {
     pub fn new(alloc: Global, header: &Header) -> Result<Sides, Memory>
         ensures { IfOk result (λ sides. sides ≡ first_transfer_sides header.now) }
     {
-        Ok(Sides {
-            header: *header,
-            first: Side::live(alloc, header)?,
-            second: Side::blank(alloc, header),
-            between: IssuedTickets::new(alloc),
-            committed: 0,
-        })
+        match Side::live(alloc, header) {
+            Err(memory) => Err(memory),
+            Ok(first) => Ok(Sides {
+                header: *header,
+                first,
+                second: Side::blank(alloc, header),
+                between: IssuedTickets::new(alloc),
+                committed: 0,
+            }),
+        }
     }
 
     /// Follows one event, and answers it. After want of memory nothing has changed, but that a call
