@@ -109,27 +109,36 @@ events_ran heading (line ∷ lines) n p r it h c =
 
 -- whole lines that were all answered, and the verdicts at their end
 
+checked_by : (first : List ℕ) (lines : List (List ℕ)) (header : Header) (it : Verdicts) → header_at first ≡ Some header
+    → GoesOn (first_recorded_run header) lines it → IsChecked (first ∷ lines) it
+checked_by first lines header it headed b = record {
+  first = first;
+  others = b.others;
+  section = b.section;
+  header = header;
+  events = b.all;
+  tested = b.tested;
+  split = ap (λ (l : List (List ℕ)). first ∷ l) b.split;
+  headed = headed;
+  read = b.read ∙ ap (map Some) (sym b.grown);
+  tests = b.tests;
+  verdicts = b.verdicts;
+}
+
+header_ran : (heading : List ℕ → Option Header) (first : List ℕ) (lines : List (List ℕ)) (p : CheckStage) (it : Verdicts)
+    → (outcome_of_lines (check_answer heading) 1 AtHeader (first ∷ lines)).outcome ≡ Ok p → StageConcludes p it
+    → (header : Header) × (heading first ≡ Some header) × GoesOn (first_recorded_run header) lines it
+header_ran heading first lines p it h c =
+    let on : CheckStage → PlayOutcome CheckStage = λ next. outcome_of_lines (check_answer heading) (1 + 1) next lines in
+    let a = line_ran on 1 (nat_lt longest_line (length first)) (answer_to_header (heading first)) p h in
+    let d = headed_by (heading first) a.0 a.1 in
+    (d.0, d.1, events_ran heading lines (1 + 1) p (first_recorded_run d.0) it (subst (Answers on p) (sym d.2) a.2) c)
+
 lines_checked : (lines : List (List ℕ)) (p : CheckStage) (it : Verdicts) → (check_of_lines lines).outcome ≡ Ok p → StageConcludes p it
     → IsChecked lines it
 lines_checked [] p it h c = absurd (subst (λ (s : CheckStage). StageConcludes s it) (sym (ok_same AtHeader p h)) c)
 lines_checked (first ∷ lines) p it h c =
-    let on : CheckStage → PlayOutcome CheckStage = λ next. outcome_of_lines (check_answer header_at) (1 + 1) next lines in
-    let a = line_ran on 1 (nat_lt longest_line (length first)) (answer_to_header (header_at first)) p h in
-    let d = headed_by (header_at first) a.0 a.1 in
-    let b = events_ran header_at lines (1 + 1) p (first_recorded_run d.0) it (subst (Answers on p) (sym d.2) a.2) c in
-    record {
-      first = first;
-      others = b.others;
-      section = b.section;
-      header = d.0;
-      events = b.all;
-      tested = b.tested;
-      split = ap (λ (l : List (List ℕ)). first ∷ l) b.split;
-      headed = d.1;
-      read = b.read ∙ ap (map Some) (sym b.grown);
-      tests = b.tests;
-      verdicts = b.verdicts;
-    }
+    let d = header_ran header_at first lines p it h c in checked_by first lines d.0 it d.1 d.2
 
 -- an input that was answered to its end
 

@@ -53,13 +53,14 @@ impl Model for Comparison {
 fn is_same(alloc: Global, line: &[u8], expected: Option<&Bytes>) -> Result<bool, Memory>
     ensures { IfOk result (λ same. same ≡ is_line line.now (option_copied expected.entry)) }
 {
-    let expected = match expected {
-        Some(expected) => expected,
-        None => return Ok(false),
-    };
-    let mut whole = Bytes::copy_of(alloc, line)?;
-    whole.push(b'\n')?;
-    Ok(whole.as_slice() == expected.as_slice())
+    match expected {
+        None => Ok(false),
+        Some(expected) => {
+            let mut whole = Bytes::copy_of(alloc, line)?;
+            whole.push(b'\n')?;
+            Ok(whole.as_slice() == expected.as_slice())
+        }
+    }
 }
 
 /// The agreement by the number of the first difference.
