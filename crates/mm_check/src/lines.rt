@@ -7,13 +7,16 @@ use mm_base::{Bytes, Memory};
 use mm_schedule::{Reply, put_end, put_line, reply_lines};
 use std::alloc::Global;
 
+/// The bytes that are reserved for a line: most have no more.
+const USUAL_LINE: usize = 32;
+
 /// The line of a reply with this index, its LF included.
 fn line_of(alloc: Global, reply: &Reply, index: usize) -> Result<Bytes, Memory>
     requires index { index < length (lines_of_reply reply.now) }
     requires printable { IsPrintable reply.now }
     ensures { IfOk result (λ line. slice_get (lines_of_reply reply.now) index ≡ Some line) }
 {
-    let mut line = Bytes::new(alloc);
+    let mut line = Bytes::with_capacity(alloc, USUAL_LINE)?;
     put_line(reply, index, &mut line)?;
     Ok(line)
 }
