@@ -4,7 +4,7 @@ pub use Rattle.std.specs.Prelude.{Err, None, Ok, Option, Result, slice_range, So
 pub use Rattle.std.proofs.Common.{◌++◌, ◌+◌, ◌-◌, ◌<◌, ◌∙◌, ◌∷◌, ◌≡◌, ◌≢◌, ◌≤◌, [], ap, append_assoc, arith, drop, length, length-append}
 pub use Rattle.std.proofs.Common.{length-drop, List, min, refl, rules, sym, take, ℕ}
 pub use Rattle.std.proofs.lemmas.List.{append-nil, drop-drop, drop-take, length-take, length-take-le, take-append-drop, take-take}
-pub use Rattle.mm_base.specs.DecimalLaws.{none_without_form, parsed_number, read_by_spelling, text_of_decimal}
+pub use Rattle.mm_base.specs.DecimalLaws.{none_without_form, read_by_spelling, too_great_with}
 pub use Rattle.mm_base.specs.FieldLaws.{eight_bytes-front, four_bytes-front, joined}
 pub use Rattle.mm_base.specs.Lines.{HasBreakAt, SourceRefills, TakesHeldBytes}
 pub use Rattle.mm_base.specs.Streams.{FrontGoesOut, IsCutShort, SinkSends, Supply}

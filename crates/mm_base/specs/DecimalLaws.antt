@@ -1,20 +1,17 @@
 -- A decimal is what std's `decimal` spells, and no other text.
-use Rattle.std.proofs.Common.{◌≡◌, ◌≢◌, ◌<◌, ◌^◌, ℕ, Bool, true, false, List, [], ◌∷◌, length, get_or, refl, sym, ap, ◌∙◌, arith, rules}
+use Rattle.std.proofs.Common.{subst, ◌≡◌, ◌≢◌, ◌<◌, ◌^◌, ℕ, Bool, true, false, List, [], ◌∷◌, length, get_or, refl, sym, ap, ◌∙◌, arith, rules}
 use Rattle.std.proofs.Common.{◌⊎◌, inl, inr, cond, ◌&&◌, nat_lt, lit<, zero, suc}
 use Rattle.std.proofs.lemmas.Grind.{common_steps}
 use Rattle.std.proofs.lemmas.Bool.Decides.{nat_tests}
 use Rattle.std.proofs.lemmas.Fmt.{decimal-digits_value, digits_decimal, digits_value-decimal, first_decimal, decimal_digit}
-use Rattle.std.proofs.lemmas.Fmt.{decimal_nonempty, IsAscii-from_digits}
-use Rattle.std.proofs.lemmas.Str.{IsUtf8-from_ascii}
-use Rattle.std.proofs.lemmas.Str.Parse.{IsNumeralModel, numerals_by_value, parse_digits}
-use Rattle.std.specs.Prelude.{Some, None, Result, Ok, Err}
-use Rattle.std.specs.Char.{is_ascii_digit}
+use Rattle.std.proofs.lemmas.Fmt.{decimal_nonempty}
+use Rattle.std.proofs.lemmas.Str.Parse.{IsNumeralModel, numerals_by_value}
+use Rattle.std.specs.Prelude.{◌+◌, ◌-◌, ◌*◌, ◌≤◌, Some, None, IsTrue}
+use Rattle.std.specs.Char.{digit_value, is_ascii_digit}
 use Rattle.std.specs.Fmt.{decimal}
 use Rattle.std.specs.List.{list_all}
-use Rattle.std.specs.Result.{result_ok}
-use Rattle.std.specs.Str.{IsUtf8}
-use Rattle.std.specs.Str.Parse.{digits_value, ParsesUnsigned}
-use Rattle.mm_base.specs.Decimals.{is_decimal, decimal_number}
+use Rattle.std.specs.Str.Parse.{digits_value, digits_value_after}
+use Rattle.mm_base.specs.Decimals.{is_decimal, decimal_number, number_in_64_bits}
 
 -- a text of digits, and its value
 abbrev AreDigits : List ℕ → Type 0
@@ -79,22 +76,36 @@ pub none_without_form : (ds : List ℕ) → is_decimal ds ≡ false → decimal_
 unfolding decimal_number
 none_without_form ds form = rw form refl
 
--- `parse` gives the number
-pub parsed_number : {E : Type 0} (ds : List ℕ) (r : Result ℕ E) → is_decimal ds ≡ true → ParsesUnsigned 64 10 ds r
-    → result_ok r ≡ decimal_number ds
+-- a decimal writes the number of its digits
+pub number_of_digits : (ds : List ℕ) → is_decimal ds ≡ true → number_in_64_bits (digits_value_after 10 0 ds) ≡ decimal_number ds
 unfolding decimal_number
-parsed_number {E} ds (Ok number) form parses =
-    let parts : ((0 < length ds) × (digits_value 10 ds < 2 ^ 64)) × (number ≡ digits_value 10 ds) =
-    parse_digits digits {E = E} 64 ds (Ok number) parses (digits_of_decimal ds form) in
-    let small : digits_value 10 ds < 2 ^ 64 = parts.0.1 in
-    let value : number ≡ digits_value 10 ds = parts.1 in
-    grind (arith, common_steps, nat_tests)
-parsed_number {E} ds (Err e) form parses =
-    let large : ((0 < length ds) × (digits_value 10 ds < 2 ^ 64)) → ⊥ =
-    parse_digits digits {E = E} 64 ds (Err e) parses (digits_of_decimal ds form) in
-    let over : digits_value 10 ds < 2 ^ 64 → ⊥ = λ small. large (some_of_decimal ds form, small) in
+number_of_digits ds form = rw form refl
+
+-- each digit more makes it greater
+pub value_behind : (n : ℕ) (ds : List ℕ) → n ≤ digits_value_after 10 n ds
+value_behind n [] = omega arith
+value_behind n (d ∷ ds) = omega (arith, value_behind (n * 10 + digit_value d) ds)
+
+pub value_of_digit : (d : ℕ) → is_ascii_digit d ≡ true → digit_value d ≡ d - 48
+value_of_digit d is = grind (arith, common_steps, nat_tests)
+
+-- the digits behind a number, of which the first is another number's last
+pub digit_behind : (n d : ℕ) (ds : List ℕ) → is_ascii_digit d ≡ true
+    → digits_value_after 10 n (d ∷ ds) ≡ digits_value_after 10 (n * 10 + (d - 48)) ds
+digit_behind n d ds is = ap (λ (digit : ℕ). digits_value_after 10 (n * 10 + digit) ds) (value_of_digit d is)
+
+-- too great, and so it stays
+too_great : (n : ℕ) (ds : List ℕ) → 2 ^ 64 ≤ n → None ≡ number_in_64_bits (digits_value_after 10 n ds)
+too_great n ds great =
+    let more : n ≤ digits_value_after 10 n ds = value_behind n ds in
     grind (arith, common_steps, nat_tests)
 
--- a decimal is text
-pub text_of_decimal : (ds : List ℕ) → is_decimal ds ≡ true → IsUtf8 ds
-text_of_decimal ds form = IsUtf8-from_ascii ds (IsAscii-from_digits ds (digits.to ds (digits_of_decimal ds form)))
+first_digit : (d : ℕ) (ds : List ℕ) → IsTrue (list_all is_ascii_digit (d ∷ ds)) → is_ascii_digit d ≡ true
+first_digit d ds are = grind (arith, common_steps, nat_tests)
+
+-- with its first digit the number is too great already
+pub too_great_with : (n d : ℕ) (ds digits : List ℕ) → digits ≡ d ∷ ds → IsTrue (list_all is_ascii_digit digits)
+    → ¬ (n * 10 + (d - 48) < 2 ^ 64) → None ≡ number_in_64_bits (digits_value_after 10 n digits)
+too_great_with n d ds digits is are great =
+    rw (is, digit_behind n d ds (first_digit d ds (subst (λ (l : List ℕ). IsTrue (list_all is_ascii_digit l)) is are)))
+    (too_great (n * 10 + (d - 48)) ds (omega arith))

@@ -4,7 +4,8 @@ ghost use Rattle.std.specs.Prelude.{◌≡◌, ◌<◌, ◌^◌, ◌++◌, ℕ, 
 ghost use Rattle.std.specs.Fmt.{decimal};
 ghost use Rattle.std.specs.Char.{is_ascii_digit};
 ghost use Rattle.std.specs.List.{list_all};
-ghost use Rattle.mm_base.specs.Decimals.{is_decimal, decimal_number};
+ghost use Rattle.std.specs.Str.Parse.{digits_value_after};
+ghost use Rattle.mm_base.specs.Decimals.{is_decimal, decimal_number, number_in_64_bits};
 
 use crate::bytes::Bytes;
 use crate::fault::Memory;
@@ -44,12 +45,27 @@ fn are_digits(bytes: &[u8]) -> bool
 }
 
 /// The number that a decimal writes, where it has at most 64 bits.
+#[tactic(auto, using(crate::specs::DecimalLaws::number_of_digits, crate::specs::DecimalLaws::digits_of_decimal))]
 fn parsed(decimal: &[u8]) -> Option<u64>
     requires { IsTrue (is_decimal decimal.now) }
     ensures { result ≡ decimal_number decimal.now }
 {
-    let text = std::str::from_utf8(decimal).unwrap();
-    text.parse::<u64>().ok()
+    number_behind(0, decimal)
+}
+
+/// The number that these digits write behind those of a number, where it has at most 64 bits.
+#[tactic(auto, using(crate::specs::DecimalLaws::digit_behind))]
+fn number_behind(number: u64, digits: &[u8]) -> Option<u64>
+    requires { IsTrue (list_all is_ascii_digit digits.now) }
+    ensures { result ≡ number_in_64_bits (digits_value_after 10 number digits.now) }
+{
+    let Some((digit, rest)) = digits.split_first() else {
+        return Some(number);
+    };
+    let more = number
+        .checked_mul(10)?
+        .checked_add(u64::from(*digit - b'0'))?;
+    number_behind(more, rest)
 }
 
 /// Puts the number's decimal at the end.

@@ -240,11 +240,15 @@ impl HeldBytes {
     }
 }
 
-/// Where the first line feed stands.
+/// Where the first line feed stands. In front it is found without a search, as one that was found
+/// before is.
 fn line_feed(bytes: &[u8]) -> Option<usize>
     ensures { MatchOption result (IsUnbroken bytes.now) (HasBreakAt bytes.now) }
 {
-    memchr(b'\n', bytes)
+    match bytes {
+        [b'\n', ..] => Some(0),
+        _ => memchr(b'\n', bytes),
+    }
 }
 
 /// Takes bytes from the source into the buffer behind its first `at` bytes.

@@ -16,10 +16,10 @@ ghost use Rattle.mm_call.specs.Refusals.{IsOrMemory, fault_in};
 
 use crate::operation::BasicAsk;
 use mm_base::CELL_LENGTH;
-use mm_call::{KeptKey, admit_batch, answer, link_under, vet};
+use mm_call::{KeptKey, admit_batch, answer, vet};
 use mm_digest::{Digest, Variant};
 use mm_machine::{Change, OpFinding, ReadyChange};
-use mm_model::{BatchAnswer, Refusal, Verdict, normal};
+use mm_model::{BatchAnswer, Refusal, Verdict, link, normal};
 use mm_module::Module;
 use mm_seal::{Cell, CellFault, Offered, PartsFault, Place, parts, read_cell, with_summary};
 
@@ -76,7 +76,7 @@ fn weigh<M: Module>(
     let key = keys.under(&cell.key);
     vet(ask.module, key, offered)?;
     let here = summary_in(&body.place);
-    let next = link_under(key, ask.alloc, &here, normal(ask.batch));
+    let next = link(&here, normal(ask.batch));
     let verdict = verdict(&cell.summary, &here, &next);
     let again = admit_batch(offered, ask.batch, verdict)?;
     let answer = match answer(

@@ -9,7 +9,7 @@ ghost use Rattle.mm_model.specs.Long.{is_long};
 ghost use Rattle.mm_call.specs.Answers.{answer_at};
 
 use mm_base::Memory;
-use mm_model::{BatchAnswer, BatchRun, run_batch};
+use mm_model::{BatchAnswer, BatchRun, run_batch_in};
 use mm_module::{Batch, Module};
 use mm_seal::{Body, Place, SealingKey};
 use std::alloc::Global;
@@ -31,7 +31,8 @@ pub fn answer<M: Module>(
     ensures { IfOk result (λ answer. answer ≡ answer_at (M.meaning «module».now) key.old
         (content_of offered.now) place (batch_of batch.entry) again) }
 {
-    let BatchRun { state, outputs } = run_batch(alloc, module, offered.state, batch)?;
+    let room = key.take_room(alloc);
+    let BatchRun { state, outputs } = run_batch_in(alloc, module, offered.state, batch, room)?;
     let position = offered.position + batch.len() as u64;
     let body = Body {
         module: module.id(),
@@ -39,7 +40,12 @@ pub fn answer<M: Module>(
         position,
         state: state.as_slice(),
     };
-    let snapshot = key.seal(alloc, &body)?;
+    let snapshot = if again {
+        key.seal(alloc, &body)?
+    } else {
+        key.seal_new(alloc, &body)?
+    };
+    key.give_room(state);
     Ok(BatchAnswer {
         again,
         position,

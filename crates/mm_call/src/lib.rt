@@ -12,7 +12,6 @@ mod ended;
 mod examining;
 mod first;
 mod laws;
-mod linking;
 mod turn;
 mod whole;
 
@@ -24,7 +23,6 @@ pub use laws::{
     basic_calls_agree, basic_checkpoints_agree, opt_calls_agree, opt_checkpoints_agree, opt_tied,
     trails_lead,
 };
-pub use linking::link_under;
 pub use mm_model::{BatchRun, run_batch};
 pub use mm_seal::KeptKey;
 pub use turn::Turn;

@@ -65,14 +65,6 @@ impl Model for Expectation {
     ghost invariant = { λ s. s.key ≡ world_key };
 }
 
-// The meddles that count.
-fn listed(meddles: &Meddles) -> &[Meddle]
-    ensures { result.now ≡ meddles_of meddles.now }
-{
-    let (front, _) = meddles.items.split_at(meddles.count as usize);
-    front
-}
-
 // Lists the messages of what is asked, where the offer is right.
 fn list_asked(
     chronicle: &Chronicle,
@@ -255,7 +247,7 @@ fn follow(
         } => {
             let course = CallPlan {
                 stop: *stop,
-                meddles: listed(meddles),
+                meddles: meddles.listed(),
             };
             let batch = Batch::One(request.as_slice());
             follow_ask(chronicle, key, issued, offer, &course, batch, messages)
@@ -268,7 +260,7 @@ fn follow(
         } => {
             let course = CallPlan {
                 stop: *stop,
-                meddles: listed(meddles),
+                meddles: meddles.listed(),
             };
             let batch = Batch::Many(text.as_slice());
             follow_ask(chronicle, key, issued, offer, &course, batch, messages)
@@ -276,7 +268,7 @@ fn follow(
         Event::Checkpoint { meddles, stop } => {
             let course = CallPlan {
                 stop: *stop,
-                meddles: listed(meddles),
+                meddles: meddles.listed(),
             };
             follow_checkpoint(chronicle, issued, &course, messages)
         }

@@ -29,5 +29,5 @@ pub use move_laws::{
     moves_keep_values_outside, opt_messages_go_on, whole_commits_are_moves,
 };
 pub use refusal::Refusal;
-pub use running::{BatchRun, run_batch};
+pub use running::{BatchRun, run_batch, run_batch_in};
 pub use verdict::Verdict;

@@ -20,7 +20,6 @@ pub struct BatchRun {
 }
 
 /// Runs the requests of a batch one after another, from a state.
-#[inline(always)]
 pub fn run_batch<M: Module>(
     alloc: Global,
     module: &M,
@@ -36,7 +35,28 @@ pub fn run_batch<M: Module>(
         ran.outputs ≡ outputs_from (M.meaning «module».now) state.now
         (members_of (batch_of batch.entry))) }
 {
-    let mut ran = run_first(alloc, module, state, batch)?;
+    run_batch_in(alloc, module, state, batch, Bytes::new(alloc))
+}
+
+/// The same, where the state after the first request takes the memory of these bytes.
+#[inline(always)]
+pub fn run_batch_in<M: Module>(
+    alloc: Global,
+    module: &M,
+    state: &[u8],
+    batch: Batch<'_>,
+    room: Bytes,
+) -> Result<BatchRun, Memory>
+    requires spelled { IsTrue ((M.meaning «module».now).is_spelled state.now) }
+    requires short { is_long (batch_of batch) ≡ false }
+    ensures state { IfOk result (λ ran.
+        ran.state ≡ state_from (M.meaning «module».now) state.now
+        (members_of (batch_of batch.entry))) }
+    ensures outputs { IfOk result (λ ran.
+        ran.outputs ≡ outputs_from (M.meaning «module».now) state.now
+        (members_of (batch_of batch.entry))) }
+{
+    let mut ran = run_first(alloc, module, state, batch, room)?;
     'members: for i in 1..batch.len() {
         let request = request_at(batch, i);
         let Stepped { state, output } = module.step(alloc, ran.state.as_slice(), request)?;
@@ -53,6 +73,7 @@ fn run_first<M: Module>(
     module: &M,
     state: &[u8],
     batch: Batch<'_>,
+    room: Bytes,
 ) -> Result<BatchRun, Memory>
     requires spelled { IsTrue ((M.meaning «module».now).is_spelled state.now) }
     requires short { is_long (batch_of batch) ≡ false }
@@ -61,10 +82,15 @@ fn run_first<M: Module>(
         ran.state ran.outputs) }
 {
     let request = request_at(batch, 0);
-    let Stepped { state, output } = module.step(alloc, state, request)?;
+    let mut next = room;
+    next.clear();
+    let output = module.step_into(alloc, state, request, &mut next)?;
     let mut outputs = Outputs::new(alloc);
     outputs.push(output)?;
-    Ok(BatchRun { state, outputs })
+    Ok(BatchRun {
+        state: next,
+        outputs,
+    })
 }
 
 // The request at this index.

@@ -18,3 +18,4 @@ pub mod BatchWords
 pub mod WordsWords
 pub mod RunLaws
 pub mod BatchLaws
+pub mod Outputs

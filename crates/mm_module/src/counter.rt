@@ -94,11 +94,24 @@ impl Module for Counter {
     }
 
     fn step(&self, alloc: Global, state: &[u8], request: &[u8]) -> Result<Stepped, Memory> {
-        let (value, says) = outcome(u64_of_bytes(state), read_request(request));
+        let mut next = Bytes::new(alloc);
+        let output = self.step_into(alloc, state, request, &mut next)?;
         Ok(Stepped {
-            state: Bytes::copy_of(alloc, &bytes_of_u64(value))?,
-            output: text(alloc, says)?,
+            state: next,
+            output,
         })
+    }
+
+    fn step_into(
+        &self,
+        alloc: Global,
+        state: &[u8],
+        request: &[u8],
+        into: &mut Bytes,
+    ) -> Result<Bytes, Memory> {
+        let (value, says) = outcome(u64_of_bytes(state), read_request(request));
+        into.append(&bytes_of_u64(value))?;
+        text(alloc, says)
     }
 }
 

@@ -1,6 +1,6 @@
 //! What a module is.
 
-ghost use Rattle.std.specs.Prelude.{◌≡◌, ◌↔◌, IfOk, IsTrue};
+ghost use Rattle.std.specs.Prelude.{◌≡◌, ◌↔◌, ◌++◌, IfOk, OnOk, IsTrue};
 ghost use Rattle.mm_module.specs.Meaning.{Meaning, IsLine, IsLawful, IsShort};
 
 use mm_base::{Bytes, LONGEST_REQUEST, Memory};
@@ -42,6 +42,27 @@ pub trait Module {
             ≡ (meaning self.now).next state.now request.now) }
         ensures output { IfOk result (λ stepped. stepped.output
             ≡ (meaning self.now).says state.now request.now) };
+
+    /// The same, with the state put at the end of these bytes, and what the module says. After want
+    /// of memory nothing is said of what stands there.
+    fn step_into(
+        &self,
+        alloc: Global,
+        state: &[u8],
+        request: &[u8],
+        into: &mut Bytes,
+    ) -> Result<Bytes, Memory>
+        requires spelled { IsTrue ((meaning self.now).is_spelled state.now) }
+        requires line { IsLine request.now }
+        ensures state { OnOk result (into.new
+            ≡ into.old ++ (meaning self.now).next state.now request.now) }
+        ensures output { IfOk result (λ output. output
+            ≡ (meaning self.now).says state.now request.now) }
+    {
+        let Stepped { state, output } = self.step(alloc, state, request)?;
+        into.append(state.as_slice())?;
+        Ok(output)
+    }
 
     /// The laws hold at every module.
     ghost is_lawful: { (it : Self) → IsLawful (meaning it) };

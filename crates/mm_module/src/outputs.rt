@@ -1,21 +1,28 @@
 //! What a batch said.
 
-ghost use Rattle.std.specs.Prelude.{◌≡◌, ℕ, List, [], ◌∷◌, ◌++◌, ◌==◌, length, slice_get, option_copied, OnOk, OnErr};
+ghost use Rattle.std.specs.Prelude.{◌≡◌, [], ◌∷◌, ◌++◌, ◌==◌, length, slice_get, option_copied, OnOk, OnErr};
 
 use mm_base::{Bytes, Memory};
 use std::alloc::Global;
 use std::marker::Model;
 
 /// The outputs of the members of a batch, in order. Contracts see the list of their byte lists.
+/// The first stands apart, so that the output of one request takes no memory besides its own.
 #[derive(Debug, Drop)]
 pub struct Outputs {
-    items: Vec<Bytes>,
+    first: Option<Bytes>,
+    rest: Vec<Bytes>,
 }
 
 impl Model for Outputs {
+    ghost use Rattle.std.specs.Prelude.{List, ℕ};
+    ghost use Rattle.mm_module.specs.Outputs.{listed_outputs, BeginsAtFirst};
+
     ghost Value = { List (List ℕ) };
 
-    ghost view = { λ outputs. outputs.items.items };
+    ghost view = { λ outputs. listed_outputs outputs.first outputs.rest.items };
+
+    ghost invariant = { λ outputs. BeginsAtFirst outputs.first outputs.rest.items };
 }
 
 impl Outputs {
@@ -24,7 +31,8 @@ impl Outputs {
         ensures { result ≡ [] }
     {
         Outputs {
-            items: Vec::new(alloc),
+            first: None,
+            rest: Vec::new(alloc),
         }
     }
 
@@ -33,7 +41,11 @@ impl Outputs {
         ensures ok { OnOk result (self.new ≡ self.old ++ output ∷ []) }
         ensures err { OnErr result (self.new ≡ self.old) }
     {
-        self.items.push(output)?;
+        if self.first.is_none() {
+            self.first = Some(output);
+            return Ok(());
+        }
+        self.rest.push(output)?;
         Ok(())
     }
 
@@ -41,24 +53,29 @@ impl Outputs {
     pub fn len(&self) -> usize
         ensures { result ≡ length self.now }
     {
-        self.items.len()
+        match self.first {
+            None => 0,
+            Some(_) => self.rest.len() + 1,
+        }
     }
 
     /// Whether there is none.
     pub fn is_empty(&self) -> bool
         ensures { result ≡ (length self.now == 0) }
     {
-        self.items.is_empty()
+        self.first.is_none()
     }
 
     /// The output at this index, None from `len` on. Takes no memory.
     pub fn get(&self, i: usize) -> Option<&[u8]>
         ensures { option_copied result ≡ slice_get self.now i }
     {
-        match self.items.get(i) {
-            None => None,
-            Some(output) => Some(output.as_slice()),
-        }
+        let output = match &self.first {
+            Some(first) if i == 0 => first,
+            Some(_) => self.rest.get(i - 1)?,
+            None => return None,
+        };
+        Some(output.as_slice())
     }
 
     /// The only output. Takes no memory.
@@ -66,8 +83,8 @@ impl Outputs {
         requires { length self ≡ 1 }
         ensures { self ≡ result ∷ [] }
     {
-        let Outputs { mut items } = self;
-        match items.pop() {
+        let Outputs { first, .. } = self;
+        match first {
             Some(output) => output,
             None => unreachable!(),
         }

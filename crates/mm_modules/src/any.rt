@@ -137,6 +137,16 @@ impl Module for AnyModule {
     fn step(&self, alloc: Global, state: &[u8], request: &[u8]) -> Result<Stepped, Memory> {
         chosen!(self, step(alloc, state, request))
     }
+
+    fn step_into(
+        &self,
+        alloc: Global,
+        state: &[u8],
+        request: &[u8],
+        into: &mut Bytes,
+    ) -> Result<Bytes, Memory> {
+        chosen!(self, step_into(alloc, state, request, into))
+    }
 }
 
 impl Listed for AnyModule {

@@ -28,4 +28,4 @@ pub use Rattle.mm_numbering.specs.Guards.{digest_items, events_of, HasAll}
 pub use Rattle.mm_numbering.specs.Listing.{pair_plus_one, first_number_of, number_of_first, is_zero, messages_with, lower_pair}
 pub use Rattle.mm_numbering.specs.Listing.{shared_pair_in, shared_pair_with, zero_number_in}
 pub use Rattle.mm_numbering.specs.Lists.{CountsDigests, has_message, ListsMessages, pair_of}
-pub use Rattle.mm_numbering.specs.Guards.{is_secured}
+pub use Rattle.mm_numbering.specs.Guards.{has_foreign_value, is_secured}

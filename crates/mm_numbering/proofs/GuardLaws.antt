@@ -2,8 +2,8 @@
 use Rattle.mm_numbering.proofs.Below.{◌≡◌, ℕ, zero, suc, ◌+◌, ◌<◌, Bool, true, false, cond, List, [], ◌∷◌, ◌++◌, length, map, take, get_or}
 use Rattle.mm_numbering.proofs.Below.{Option, None, Some, refl, sym, ap, ◌∙◌, arith, append-nil, ◌||◌, BTreeSet, flat_map-append}
 use Rattle.mm_numbering.proofs.Below.{contains, slice_cmp, list_any, option_map, nat_cmp, is_eq, bytes_eq, take_more, map-append}
-use Rattle.mm_numbering.proofs.Below.{nat_list_eq_equiv, list_any-append, is_eq-slice_cmp, Meddle, CodeEvent, Event, event_of, own_values}
-use Rattle.mm_numbering.proofs.Below.{Batch, batches_of, asked_batches, number_of_first, events_of, HasAll}
+use Rattle.mm_numbering.proofs.Below.{nat_list_eq_equiv, list_any-append, is_eq-slice_cmp, Meddle, CodeEvent, Event, event_of, own_values, event_foreign_values}
+use Rattle.mm_numbering.proofs.Below.{Batch, batches_of, asked_batches, number_of_first, events_of, has_foreign_value, is_secured, HasAll}
 use Rattle.mm_numbering.proofs.ListingLaws.{number_of_first-push}
 use Rattle.mm_model.specs.Chains.{guard}
 
@@ -80,3 +80,21 @@ secured_same known set [] h = refl
 secured_same known set (v ∷ values) h =
     ap (λ (b : Bool). b || list_any (contains (slice_cmp nat_cmp) set) values) (h v)
     ∙ ap (λ (b : Bool). list_any (bytes_eq v) known || b) (secured_same known set values h)
+
+-- where others bring nothing, they bring no guard
+
+none_of : (p : List ℕ → Bool) (values : List (List ℕ)) → list_any (λ (v : List ℕ). true) values ≡ false → list_any p values ≡ false
+none_of p [] h = refl
+none_of p (v ∷ values) h = absurd (cc)
+
+or_neither : (a b : Bool) → (a || b) ≡ false → (a ≡ false) × (b ≡ false)
+or_neither true b h = absurd (cc)
+or_neither false b h = (refl, h)
+
+pub none_bring : (known : List (List ℕ)) (es : List CodeEvent)
+    → list_any (λ (event : CodeEvent). has_foreign_value (event_of event)) es ≡ false
+    → number_of_first (is_secured known) (events_of es) ≡ None
+none_bring known [] h = refl
+none_bring known (e ∷ es) h =
+    let parts = or_neither (has_foreign_value (event_of e)) (list_any (λ (event : CodeEvent). has_foreign_value (event_of event)) es) h in
+    rw (none_of (λ v. list_any (bytes_eq v) known) (event_foreign_values (event_of e)) parts.0, none_bring known es parts.1) refl

@@ -1,5 +1,5 @@
 -- The guards of batches in code.
-use Rattle.std.specs.Prelude.{◌≡◌, ℕ, Bool, List, [], ◌∷◌, map, Option, None, Some, if◌then◌else◌}
+use Rattle.std.specs.Prelude.{◌≡◌, ℕ, Bool, true, List, [], ◌∷◌, map, Option, None, Some, if◌then◌else◌}
 use Rattle.std.specs.BTreeSet.{BTreeSet, contains}
 use Rattle.std.specs.Cmp.Lexicographic.{slice_cmp}
 use Rattle.std.specs.List.{list_any}
@@ -24,6 +24,10 @@ digest_items (Some digest) = digest.bytes ∷ []
 abbrev pub HasAll : List (List ℕ) → BTreeSet (List ℕ) → Type 0
 HasAll digests set =
     (d : List ℕ) → contains (slice_cmp nat_cmp) set d ≡ list_any (bytes_eq d) digests
+
+-- others extend the register
+abbrev pub has_foreign_value : Event → Bool
+has_foreign_value event = list_any (λ v. true) (event_foreign_values event)
 
 -- others extend the register by a value that is one of these guards
 abbrev pub is_secured : List (List ℕ) → Event → Bool

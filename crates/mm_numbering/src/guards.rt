@@ -1,6 +1,6 @@
 //! The guards of the batches that are asked, and the values of others among them.
 
-ghost use Rattle.std.specs.Prelude.{◌≡◌, ◌||◌, ◌++◌, ℕ, List, [], ◌∷◌, map, length, ◌≤◌, Option, Some, None, IfOk, OnOk};
+ghost use Rattle.std.specs.Prelude.{◌≡◌, true, ◌||◌, ◌++◌, ℕ, List, [], ◌∷◌, map, length, ◌≤◌, Option, Some, IfOk, OnOk};
 ghost use Rattle.std.specs.BTreeSet.{contains};
 ghost use Rattle.std.specs.Cmp.Lexicographic.{slice_cmp};
 ghost use Rattle.std.specs.List.{list_any};
@@ -16,7 +16,7 @@ ghost use Rattle.mm_schedule.specs.Events.{event_of, meddles_of};
 ghost use Rattle.mm_outcome.specs.WorldState.{world_barrier};
 ghost use Rattle.mm_outcome.specs.Premises.{batches_of, event_foreign_values, asked_batches};
 ghost use Rattle.mm_numbering.specs.Listing.{number_of_first};
-ghost use Rattle.mm_numbering.specs.Guards.{is_secured};
+ghost use Rattle.mm_numbering.specs.Guards.{has_foreign_value, is_secured};
 ghost use Rattle.mm_numbering.specs.Guards.{events_of, batches_unless_long, digest_items, HasAll, secured_event_by};
 
 use mm_base::Memory;
@@ -114,10 +114,7 @@ fn some_meddle(guards: &BTreeSet<[u8; 32]>, meddles: &Meddles) -> bool
     ensures { result ≡ list_any (λ m. contains (slice_cmp nat_cmp) guards.now m.value.bytes)
         (meddles_of meddles.now) }
 {
-    let count = meddles.count as usize;
-    meddles.items[..count]
-        .iter()
-        .any(|meddle| brings(guards, meddle))
+    meddles.listed().iter().any(|meddle| brings(guards, meddle))
 }
 
 /// Whether others extend the register by a value of the set.
@@ -149,8 +146,37 @@ fn first_among(guards: &BTreeSet<[u8; 32]>, events: &[Event]) -> Option<u32>
     None
 }
 
+/// Whether others bring any value before some step.
+fn some_value(meddles: &Meddles) -> bool
+    ensures { result ≡ list_any (λ m. true) (meddles_of meddles.now) }
+{
+    !meddles.listed().is_empty()
+}
+
+/// Whether others extend the register at an event.
+#[tactic(auto, using(crate::proofs::GuardLaws::any_value))]
+fn brings_value(event: &Event) -> bool
+    ensures { result ≡ has_foreign_value (event_of event.now) }
+{
+    match event {
+        Event::Ask { meddles, .. } => some_value(meddles),
+        Event::Batch { meddles, .. } => some_value(meddles),
+        Event::Checkpoint { meddles, .. } => some_value(meddles),
+        Event::Power => false,
+        Event::Extend { .. } => true,
+    }
+}
+
+/// Whether others extend the register at some event.
+fn some_bring(events: &[Event]) -> bool
+    ensures { result ≡ list_any (λ event. has_foreign_value (event_of event)) events.now }
+{
+    events.iter().any(brings_value)
+}
+
 /// The first event at which others extend the register by the guard of a batch that the run asks.
-/// In Basic nothing is asked of them.
+/// In Basic nothing is asked of them. Where others bring nothing, no guard is made.
+#[tactic(auto, using(crate::proofs::GuardLaws::none_bring))]
 pub fn first_secured(
     alloc: Global,
     variant: Variant,
@@ -162,6 +188,7 @@ pub fn first_secured(
 {
     match variant {
         Variant::Basic => Ok(None),
+        Variant::Opt if !some_bring(events) => Ok(None),
         Variant::Opt => {
             let guards = guards_of(alloc, events)?;
             Ok(first_among(&guards, events))

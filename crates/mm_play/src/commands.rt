@@ -4,6 +4,8 @@ ghost use Rattle.std.specs.Prelude.{◌≡◌, ◌≤◌, ℕ, List, length, Mat
 ghost use Rattle.mm_play.specs.Stage.{LineStage, AtHeading, InEvents, line_answer, closing_lines, remaining_lines, play_state};
 ghost use Rattle.mm_play.specs.StageLaws.{lines_fall, lines_few};
 ghost use Rattle.mm_play.specs.Commands.{stage_at};
+ghost use Rattle.mm_play.specs.Fronts.{GivesReply};
+ghost use Rattle.mm_play.specs.PutReply.{PutsReply};
 
 use crate::player::{Player, ReplyFault};
 use crate::progress::Progress;
@@ -53,6 +55,28 @@ impl<H: Drop, S: Drop> LinePlayer<H, S> {
     }
 }
 
+impl<H: Heading<S> + Drop, S: PlayStage + Drop> LinePlayer<H, S> {
+    // Takes a line of the heading, to which nothing is replied. It stands apart from the events,
+    // which would have to make room for a whole stage each.
+    #[cold]
+    #[inline(never)]
+    fn take_heading_line(&mut self, alloc: Global, line: &[u8]) -> Result<(), ReplyFault>
+        requires { (heading : H) × (self.old ≡ AtHeading heading) }
+        ensures { (text : List ℕ) → PutsReply text text
+            (GivesReply (line_answer H.heads S.plays self.old line.now) self.new) result }
+    {
+        match &mut self.at {
+            CommandPhase::Heading(heading) => {
+                if let Some(stage) = heading.take_line(alloc, line)? {
+                    self.at = CommandPhase::Events(Progress::new(stage));
+                }
+                Ok(())
+            }
+            CommandPhase::Events(_) => unreachable!(),
+        }
+    }
+}
+
 impl<H: Heading<S> + Drop, S: PlayStage + Drop> Player for LinePlayer<H, S> {
     ghost answer = { line_answer H.heads S.plays };
 
@@ -74,12 +98,7 @@ impl<H: Heading<S> + Drop, S: PlayStage + Drop> Player for LinePlayer<H, S> {
     ) -> Result<(), ReplyFault> {
         match &mut self.at {
             CommandPhase::Events(progress) => progress.put_reply(alloc, line, into),
-            CommandPhase::Heading(heading) => {
-                if let Some(stage) = heading.take_line(alloc, line)? {
-                    self.at = CommandPhase::Events(Progress::new(stage));
-                }
-                Ok(())
-            }
+            CommandPhase::Heading(_) => self.take_heading_line(alloc, line),
         }
     }
 

@@ -12,14 +12,14 @@ use mm_world::{EventView, World, line_view, owned_view};
 use std::alloc::Global;
 use std::marker::Model;
 
-/// A replay among its events: a world, and how many events it followed.
+/// A world, and how many events it followed.
 #[derive(Drop)]
-pub struct ScheduleReplay {
+struct FollowedWorld {
     world: World,
     events: u32,
 }
 
-impl Model for ScheduleReplay {
+impl Model for FollowedWorld {
     ghost use Rattle.mm_replay.specs.ReplayEvents.{KeepsWorld, replay_state_in};
     ghost use Rattle.mm_replay.specs.Schedule.{ReplayState};
 
@@ -30,35 +30,20 @@ impl Model for ScheduleReplay {
     ghost invariant = { λ p. KeepsWorld p.world p.events };
 }
 
-impl ScheduleReplay {
+impl FollowedWorld {
     ghost use Rattle.mm_replay.specs.Schedule.{replay_state_after, first_replay_state, outcome_of, replay_steps};
-    ghost use Rattle.mm_schedule.specs.Events.{event_of};
     ghost use Rattle.mm_schedule.specs.Replies.{IsPrintable, end_line};
     ghost use Rattle.mm_play.specs.PutReply.{PutsReply};
     ghost use Rattle.mm_play.specs.Stage.{StageAnswersEvent, answer_by};
     ghost use Rattle.mm_replay.specs.ReplayEvents.{ReplayLacksMemory};
     ghost use Rattle.mm_world.specs.Views.{event_of_view};
 
-    /// A replay at its first event.
-    pub fn new(alloc: Global, header: &Header) -> Result<ScheduleReplay, Memory>
+    // A new world, which followed none.
+    fn new(alloc: Global, header: &Header) -> Result<FollowedWorld, Memory>
         ensures { IfOk result (λ it. it ≡ first_replay_state header.now) }
     {
         let world = World::new(alloc, header)?;
-        Ok(ScheduleReplay { world, events: 0 })
-    }
-
-    /// Plays an event in the world. After want of memory it isn't counted, and all is as the world
-    /// leaves it then.
-    #[inline(always)]
-    pub fn event(&mut self, event: &Event) -> Result<Reply, Memory>
-        requires { self.old.events < most_events }
-        ensures reply { IfOk result
-            (λ reply. reply ≡ (outcome_of self.old (event_of event.now)).reply) }
-        ensures printable { IfOk result IsPrintable }
-        ensures after { OnOk result (self.new ≡ replay_state_after self.old (event_of event.now)) }
-        ensures wants { OnErr result (ReplayLacksMemory self.old (event_of event.now) self.new) }
-    {
-        self.follow(owned_view(event))
+        Ok(FollowedWorld { world, events: 0 })
     }
 
     // Plays an event where it lies.
@@ -98,12 +83,68 @@ impl ScheduleReplay {
         }
     }
 
+    // Puts the last line at the end.
+    fn put_last_line(&self, into: &mut Bytes) -> Result<(), Memory>
+        ensures { OnOk result (into.new
+            ≡ into.old ++ end_line self.now.digests.count (length self.now.issued)) }
+    {
+        put_end(self.world.committed(), self.world.issued(), into)
+    }
+}
+
+/// A replay among its events: a world that follows them, and room for the meddles of a line.
+/// Contracts see the first alone.
+#[derive(Drop)]
+pub struct ScheduleReplay {
+    followed: FollowedWorld,
+    meddles: Meddles,
+}
+
+impl Model for ScheduleReplay {
+    ghost use Rattle.mm_replay.specs.Schedule.{ReplayState};
+
+    ghost Value = { ReplayState };
+
+    ghost view = { λ it. it.followed };
+}
+
+impl ScheduleReplay {
+    ghost use Rattle.mm_replay.specs.Schedule.{replay_state_after, first_replay_state, outcome_of};
+    ghost use Rattle.mm_schedule.specs.Events.{event_of};
+    ghost use Rattle.mm_schedule.specs.Replies.{IsPrintable, end_line};
+    ghost use Rattle.mm_replay.specs.ReplayEvents.{ReplayLacksMemory};
+
+    /// A replay at its first event.
+    pub fn new(alloc: Global, header: &Header) -> Result<ScheduleReplay, Memory>
+        ensures { IfOk result (λ it. it ≡ first_replay_state header.now) }
+    {
+        let followed = FollowedWorld::new(alloc, header)?;
+        Ok(ScheduleReplay {
+            followed,
+            meddles: Meddles::none(),
+        })
+    }
+
+    /// Plays an event in the world. After want of memory it isn't counted, and all is as the world
+    /// leaves it then.
+    #[inline(always)]
+    pub fn event(&mut self, event: &Event) -> Result<Reply, Memory>
+        requires { self.old.events < most_events }
+        ensures reply { IfOk result
+            (λ reply. reply ≡ (outcome_of self.old (event_of event.now)).reply) }
+        ensures printable { IfOk result IsPrintable }
+        ensures after { OnOk result (self.new ≡ replay_state_after self.old (event_of event.now)) }
+        ensures wants { OnErr result (ReplayLacksMemory self.old (event_of event.now) self.new) }
+    {
+        self.followed.follow(owned_view(event))
+    }
+
     /// Puts the last line at the end.
     pub fn put_last_line(&self, into: &mut Bytes) -> Result<(), Memory>
         ensures { OnOk result (into.new
             ≡ into.old ++ end_line self.now.digests.count (length self.now.issued)) }
     {
-        put_end(self.world.committed(), self.world.issued(), into)
+        self.followed.put_last_line(into)
     }
 
     /// How many requests were committed and snapshots issued.
@@ -112,8 +153,8 @@ impl ScheduleReplay {
         ensures issued { result.issued ≡ length self.now.issued }
     {
         Report {
-            committed: self.world.committed(),
-            issued: self.world.issued(),
+            committed: self.followed.world.committed(),
+            issued: self.followed.world.issued(),
         }
     }
 }
@@ -129,11 +170,11 @@ impl PlayStage for ScheduleReplay {
     ghost wants = { EventLacksMemory replay_steps ReplayLacksMemory };
 
     fn events(&self) -> u32 {
-        self.events
+        self.followed.events
     }
 
     fn kept(&self) -> u64 {
-        self.world.kept()
+        self.followed.world.kept()
     }
 
     fn is_event(&self, _alloc: Global, line: &[u8]) -> Result<bool, Memory> {
@@ -153,9 +194,10 @@ impl PlayStage for ScheduleReplay {
         line: &[u8],
         into: &mut Bytes,
     ) -> Result<(), ReplyFault> {
-        let mut meddles = Meddles::none();
-        match event_in(line, &mut meddles) {
-            Some(text) => self.put_reply_to(line_view(&meddles, text), into),
+        match event_in(line, &mut self.meddles) {
+            Some(text) => self
+                .followed
+                .put_reply_to(line_view(&self.meddles, text), into),
             None => Err(ReplyFault::Refused(LineRefusal::Bad)),
         }
     }

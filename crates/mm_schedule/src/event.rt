@@ -46,6 +46,15 @@ impl Meddles {
         }
     }
 
+    /// Those that count.
+    #[inline(always)]
+    pub fn listed(&self) -> &[Meddle]
+        ensures { result.now ≡ meddles_of self.now }
+    {
+        let (front, _) = self.items.split_at(self.count as usize);
+        front
+    }
+
     /// Puts one more at the end.
     pub(crate) fn push(&mut self, meddle: Meddle)
         requires { self.old.count < 8 }

@@ -5,7 +5,6 @@
 mod cell;
 mod field;
 mod kept;
-mod link;
 mod sealing;
 mod snapshot;
 

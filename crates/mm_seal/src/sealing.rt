@@ -1,8 +1,7 @@
 //! The key that snapshots are sealed under, which remembers what it sealed last.
 
-ghost use Rattle.std.specs.Prelude.{◌≡◌, IfSome, IsSome};
+ghost use Rattle.std.specs.Prelude.{◌≡◌, IfSome, IsSome, option_copied};
 
-use crate::link::{LastLink, successor_after};
 use crate::snapshot::{Body, Offered, front};
 use mm_base::{Bytes, Memory};
 use mm_digest::{Digest, HmacKey};
@@ -11,16 +10,19 @@ use std::marker::Model;
 
 /// A key of 32 bytes, absorbed once, that remembers the two texts that it sealed last, with their
 /// tags. The snapshot that was sealed last is mostly what is offered next, and a repeat seals it
-/// again, offering the one before: neither takes a second HMAC. It remembers the last link of the
-/// history too, which a repeat makes again. What is remembered is each text's own tag, and the
-/// link's own digest, so it changes no answer, and contracts see the key alone.
+/// again, offering the one before: neither takes a second HMAC. What is remembered is each text's
+/// own tag, so it changes no answer, and contracts see the key alone.
+///
+/// Each new text takes the older one's place, in its memory. Memory for the state of a next
+/// snapshot is kept too.
 #[derive(Drop)]
 pub struct SealingKey {
     bytes: [u8; 32],
     key: Option<HmacKey>,
-    last: Option<TaggedText>,
-    before: Option<TaggedText>,
-    link: Option<LastLink>,
+    first: Option<TaggedText>,
+    second: Option<TaggedText>,
+    last_is_second: bool,
+    room: Option<Bytes>,
 }
 
 /// A text that was sealed, which is a snapshot without its tag; and the tag.
@@ -38,14 +40,13 @@ impl Model for SealingKey {
 
     ghost view = { λ it. it.bytes };
 
-    ghost invariant = { λ it. KeyRemembers it.bytes it.key it.last it.before };
+    ghost invariant = { λ it. KeyRemembers it.bytes it.key it.first it.second };
 }
 
 impl SealingKey {
-    ghost use Rattle.std.specs.Prelude.{◌≡◌, ◌≤◌, ◌↔◌, IsTrue, IfOk, IfSome, length};
+    ghost use Rattle.std.specs.Prelude.{◌≡◌, ◌≤◌, ◌↔◌, [], IsTrue, IfOk, IfSome, length};
     ghost use Rattle.mm_base.specs.Limits.{last_position, limit_of};
     ghost use Rattle.mm_digest.specs.Hmac.{hmac_of};
-    ghost use Rattle.mm_digest.specs.MessagesWords.{successor_digest_of};
     ghost use Rattle.mm_seal.specs.Body.{content_of};
     ghost use Rattle.mm_seal.specs.Snapshot.{sealed_snapshot_of, tag_of};
 
@@ -56,9 +57,10 @@ impl SealingKey {
         SealingKey {
             bytes: *key,
             key: Some(HmacKey::new(key)),
-            last: None,
-            before: None,
-            link: None,
+            first: None,
+            second: None,
+            last_is_second: false,
+            room: None,
         }
     }
 
@@ -75,9 +77,10 @@ impl SealingKey {
         SealingKey {
             bytes: *key,
             key: None,
-            last,
-            before,
-            link: None,
+            first: last,
+            second: before,
+            last_is_second: false,
+            room: None,
         }
     }
 
@@ -92,9 +95,10 @@ impl SealingKey {
     pub fn last(&self) -> Option<&TaggedText>
         ensures { IfSome result (λ it. it.now.tag.bytes ≡ hmac_of self.now it.now.text.items) }
     {
-        match &self.last {
-            Some(tagged) => Some(tagged),
-            None => None,
+        if self.last_is_second {
+            lent(&self.second)
+        } else {
+            lent(&self.first)
         }
     }
 
@@ -102,9 +106,10 @@ impl SealingKey {
     pub fn before(&self) -> Option<&TaggedText>
         ensures { IfSome result (λ it. it.now.tag.bytes ≡ hmac_of self.now it.now.text.items) }
     {
-        match &self.before {
-            Some(tagged) => Some(tagged),
-            None => None,
+        if self.last_is_second {
+            lent(&self.first)
+        } else {
+            lent(&self.second)
         }
     }
 
@@ -123,12 +128,53 @@ impl SealingKey {
         offered.has_tag(&tag)
     }
 
+    /// No bytes, in the memory that was given back last, if any was.
+    #[inline(always)]
+    pub fn take_room(&mut self, alloc: Global) -> Bytes
+        ensures none { result ≡ [] }
+        ensures same { self.new ≡ self.old }
+    {
+        match self.room.take() {
+            Some(mut room) => {
+                room.clear();
+                room
+            }
+            None => Bytes::new(alloc),
+        }
+    }
+
+    /// Gives memory back, for the state of a next snapshot.
+    #[inline(always)]
+    pub fn give_room(&mut self, room: Bytes)
+        ensures { self.new ≡ self.old }
+    {
+        self.room = Some(room);
+    }
+
     /// The snapshot of this content, sealed under the key, as [`crate::seal`] gives it. What is
     /// signed is remembered from then on, with its tag; where memory is too short for that alone,
-    /// nothing is.
+    /// it isn't.
+    #[tactic(auto, unfolding(crate::specs::Snapshot::sealed_snapshot_of))]
+    pub fn seal(&mut self, alloc: Global, body: &Body<'_>) -> Result<Bytes, Memory>
+        requires position { body.now.position ≤ last_position }
+        requires state { length body.now.state.now ≤ limit_of body.now.module }
+        ensures sealed { IfOk result
+            (λ bytes. bytes ≡ sealed_snapshot_of self.old (content_of body.now)) }
+        ensures same { self.new ≡ self.old }
+    {
+        let mut bytes = front(alloc, body)?;
+        let tag = match self.remembered(bytes.as_slice()) {
+            Some(tag) => tag,
+            None => self.tag_kept(alloc, bytes.as_slice()),
+        };
+        bytes.append(&tag.bytes)?;
+        Ok(bytes)
+    }
+
+    /// The same, of a content that wasn't sealed before: it isn't sought in what is remembered.
     #[tactic(auto, unfolding(crate::specs::Snapshot::sealed_snapshot_of))]
     #[inline(always)]
-    pub fn seal(&mut self, alloc: Global, body: &Body<'_>) -> Result<Bytes, Memory>
+    pub fn seal_new(&mut self, alloc: Global, body: &Body<'_>) -> Result<Bytes, Memory>
         requires position { body.now.position ≤ last_position }
         requires state { length body.now.state.now ≤ limit_of body.now.module }
         ensures sealed { IfOk result
@@ -139,16 +185,6 @@ impl SealingKey {
         let tag = self.tag_kept(alloc, bytes.as_slice());
         bytes.append(&tag.bytes)?;
         Ok(bytes)
-    }
-
-    /// The summary after one more request, as [`mm_digest::successor`] gives it. It is remembered
-    /// from then on; where memory is too short for that alone, nothing is.
-    #[inline(always)]
-    pub fn successor(&mut self, alloc: Global, summary: &Digest, request: &[u8]) -> Digest
-        ensures digest { result.bytes ≡ successor_digest_of summary.now.bytes request.now }
-        ensures same { self.new ≡ self.old }
-    {
-        successor_after(alloc, &mut self.link, summary, request)
     }
 
     // The tag of a text.
@@ -173,21 +209,21 @@ impl SealingKey {
         }
     }
 
-    // The tag of a text, which is remembered from then on.
+    // The tag of a text, computed, which is remembered from then on.
     #[inline(always)]
     fn tag_kept(&mut self, alloc: Global, text: &[u8]) -> Digest
         ensures tag { result.bytes ≡ hmac_of self.old text.now }
         ensures same { self.new ≡ self.old }
     {
-        match self.remembered(text) {
-            Some(tag) => tag,
-            None => {
-                absorb(&mut self.key, &self.bytes);
-                let tag = self.computed(text);
-                remember(alloc, &mut self.last, &mut self.before, text, &tag);
-                tag
-            }
+        absorb(&mut self.key, &self.bytes);
+        let tag = self.computed(text);
+        if self.last_is_second {
+            remember(alloc, &mut self.first, text, &tag);
+        } else {
+            remember(alloc, &mut self.second, text, &tag);
         }
+        self.last_is_second = !self.last_is_second;
+        tag
     }
 
     // The tag of a text, where it is one that is remembered.
@@ -195,15 +231,35 @@ impl SealingKey {
     fn remembered(&self, text: &[u8]) -> Option<Digest>
         ensures { IfSome result (λ tag. tag.bytes ≡ hmac_of self.now text.now) }
     {
-        match tag_in(&self.last, text) {
+        match tag_in(self.last(), text) {
             Some(tag) => Some(tag),
-            None => tag_in(&self.before, text),
+            None => tag_in(self.before(), text),
         }
     }
 }
 
 impl TaggedText {
-    ghost use Rattle.std.specs.Prelude.{◌≡◌, IfSome};
+    ghost use Rattle.std.specs.Prelude.{◌≡◌, IsTrue, IfSome};
+
+    // A copy of a text, with its tag. None where memory is wanting.
+    fn copied(alloc: Global, text: &[u8], tag: &Digest) -> Option<TaggedText>
+        ensures { IfSome result (λ it. (it.tag ≡ tag.now) × (it.text.items ≡ text.now)) }
+    {
+        let text = Vec::from_slice(alloc, text).ok()?;
+        Some(TaggedText { text, tag: *tag })
+    }
+
+    // Whether it could become this text, with its tag, in the memory that it has.
+    fn become_text(&mut self, text: &[u8], tag: &Digest) -> bool
+        ensures { IsTrue result → (self.new.tag ≡ tag.now) × (self.new.text.items ≡ text.now) }
+    {
+        self.text.clear();
+        if self.text.extend_from_slice(text).is_err() {
+            return false;
+        }
+        self.tag = *tag;
+        true
+    }
 
     // Its tag, where this is its text, byte for byte.
     #[inline(always)]
@@ -218,12 +274,23 @@ impl TaggedText {
     }
 }
 
+// The text in a place, where there is one.
+#[inline(always)]
+fn lent(place: &Option<TaggedText>) -> Option<&TaggedText>
+    ensures { option_copied result ≡ place.now }
+{
+    match place {
+        Some(tagged) => Some(tagged),
+        None => None,
+    }
+}
+
 // The tag of a text, where it is this one.
 #[inline(always)]
-fn tag_in(tagged: &Option<TaggedText>, text: &[u8]) -> Option<Digest>
-    ensures some { IfSome result (λ tag. IsSome tagged.now) }
-    ensures tag { IfSome result (λ tag. IfSome tagged.now
-        (λ it. (tag ≡ it.tag) × (it.text.items ≡ text.now))) }
+fn tag_in(tagged: Option<&TaggedText>, text: &[u8]) -> Option<Digest>
+    ensures some { IfSome result (λ tag. IsSome tagged.entry) }
+    ensures tag { IfSome result (λ tag. IfSome tagged.entry
+        (λ it. (tag ≡ it.now.tag) × (it.now.text.items ≡ text.now))) }
 {
     match tagged {
         Some(tagged) => tagged.tag_of(text),
@@ -242,28 +309,16 @@ fn absorb(key: &mut Option<HmacKey>, bytes: &[u8; 32])
     }
 }
 
-// Remembers a text with its tag, and the one before, in the memory of the one before that. Where
-// that is too little, and there is no more, the text isn't remembered.
-fn remember(
-    alloc: Global,
-    last: &mut Option<TaggedText>,
-    before: &mut Option<TaggedText>,
-    text: &[u8],
-    tag: &Digest,
-)
-    ensures last { IfSome last.new (λ it. (it.tag ≡ tag.now) × (it.text.items ≡ text.now)) }
-    ensures before { before.new ≡ last.old }
+// Remembers a text with its tag in a place, in the memory of the one that stands there, or in more.
+// Where there is none, nothing stands there.
+fn remember(alloc: Global, place: &mut Option<TaggedText>, text: &[u8], tag: &Digest)
+    ensures { IfSome place.new (λ it. (it.tag ≡ tag.now) × (it.text.items ≡ text.now)) }
 {
-    let mut kept = match before.take() {
-        Some(TaggedText { text, .. }) => text,
-        None => Vec::new(alloc),
+    let is_kept = match place {
+        Some(kept) => kept.become_text(text, tag),
+        None => false,
     };
-    *before = last.take();
-    kept.clear();
-    if kept.extend_from_slice(text).is_ok() {
-        *last = Some(TaggedText {
-            text: kept,
-            tag: *tag,
-        });
+    if !is_kept {
+        *place = TaggedText::copied(alloc, text, tag);
     }
 }

@@ -21,7 +21,6 @@ use crate::side::Side;
 use mm_base::Memory;
 use mm_outcome::CallPlan;
 use mm_schedule::{Event, Header};
-use mm_world::listed;
 use std::alloc::Global;
 use std::marker::Model;
 
@@ -97,7 +96,7 @@ fn act(
             stop,
             command,
         } => {
-            let meddles = listed(meddles);
+            let meddles = meddles.listed();
             let course = CallPlan {
                 stop: *stop,
                 meddles,

@@ -11,7 +11,6 @@ mod world;
 
 pub use call::{CallReport, call_by_offer, planned_checkpoint, settle, takes_effect};
 pub use keys::world_secrets;
-pub use parts::listed;
 pub use planning::{CallTeller, planned, settled};
 pub use seat::Seat;
 pub use views::{EventView, OfferView, line_view, owned_view};

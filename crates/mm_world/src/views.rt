@@ -5,7 +5,6 @@ ghost use Rattle.mm_schedule.specs.Events.{event_of, meddles_of};
 ghost use Rattle.mm_schedule.specs.Texts.{event_in};
 ghost use Rattle.mm_world.specs.Views.{event_of_view};
 
-use crate::parts::listed;
 use mm_digest::Digest;
 use mm_module::Batch;
 use mm_outcome::CallPlan;
@@ -49,7 +48,7 @@ pub fn owned_view(event: &Event) -> EventView<'_>
         } => EventView::Ask {
             course: CallPlan {
                 stop: *stop,
-                meddles: listed(meddles),
+                meddles: meddles.listed(),
             },
             from: OfferView::Owned(offer),
             batch: Batch::One(request.as_slice()),
@@ -62,7 +61,7 @@ pub fn owned_view(event: &Event) -> EventView<'_>
         } => EventView::Ask {
             course: CallPlan {
                 stop: *stop,
-                meddles: listed(meddles),
+                meddles: meddles.listed(),
             },
             from: OfferView::Owned(offer),
             batch: Batch::Many(text.as_slice()),
@@ -70,7 +69,7 @@ pub fn owned_view(event: &Event) -> EventView<'_>
         Event::Checkpoint { meddles, stop } => EventView::Checkpoint {
             course: CallPlan {
                 stop: *stop,
-                meddles: listed(meddles),
+                meddles: meddles.listed(),
             },
         },
         Event::Power => EventView::Power,
@@ -83,7 +82,7 @@ pub fn owned_view(event: &Event) -> EventView<'_>
 pub fn line_view<'a>(meddles: &'a Meddles, text: EventText<'a>) -> EventView<'a>
     ensures { event_of_view result ≡ event_in (meddles_of meddles.now) text.entry }
 {
-    let meddles = listed(meddles);
+    let meddles = meddles.listed();
     match text {
         EventText::Ask {
             stop,

@@ -1,7 +1,7 @@
 use Rattle.mm_module.specs.Batch.{members_of}
 use Rattle.mm_module.specs.Batches.{batch_of}
 use Rattle.mm_model.proofs.Members.{ran_on}
-use Rattle.mm_model.proofs.running.run_batch.Goals as goal
+use Rattle.mm_model.proofs.running.run_batch_in.Goals as goal
 
 pub members-preserved : goal.members-preserved
 members-preserved g c =

@@ -1,6 +1,6 @@
 use Rattle.mm_replay.proofs.Progressing.{keeps_on, keeps_still}
 use Rattle.mm_world.specs.Views.{event_of_view}
-use Rattle.mm_replay.proofs.replaying.ScheduleReplay.follow.Goals as goal
+use Rattle.mm_replay.proofs.replaying.FollowedWorld.follow.Goals as goal
 
 pub invariant_of-self : goal.invariant_of-self
 invariant_of-self c = keeps_still (event_of_view c.args.event) _ _ _ c.self.invariant c.in_err-reply.ensures.wants
