@@ -85,11 +85,9 @@ fn run_first<M: Module>(
     let mut next = room;
     next.clear();
     let output = module.step_into(alloc, state, request, &mut next)?;
-    let mut outputs = Outputs::new(alloc);
-    outputs.push(output)?;
     Ok(BatchRun {
         state: next,
-        outputs,
+        outputs: Outputs::one(alloc, output),
     })
 }
 

@@ -1,12 +1,8 @@
--- Outputs, of which the first stands apart.
-use Rattle.std.specs.Prelude.{◌≡◌, ℕ, List, [], ◌∷◌, Option, None, Some}
+-- Outputs, as contracts see them.
+use Rattle.std.specs.Prelude.{ℕ, List, [], ◌∷◌}
+use Rattle.mm_module.specs.declared.outputs.OutputItems.{OutputItems}
+use Rattle.mm_module.specs.declared.outputs.OutputItems.TheVariants.{One, Many}
 
--- the first, if there is one, and then the rest
-abbrev pub listed_outputs : Option (List ℕ) → List (List ℕ) → List (List ℕ)
-listed_outputs None rest = rest
-listed_outputs (Some first) rest = first ∷ rest
-
--- behind no first there is no rest
-abbrev pub BeginsAtFirst : Option (List ℕ) → List (List ℕ) → Type 0
-BeginsAtFirst None rest = rest ≡ []
-BeginsAtFirst (Some first) rest = Unit {0}
+abbrev pub listed_outputs : OutputItems → List (List ℕ)
+listed_outputs (One output) = output ∷ []
+listed_outputs (Many items) = items.items

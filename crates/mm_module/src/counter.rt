@@ -25,6 +25,9 @@ enum Request {
     Add(u64),
 }
 
+/// A value has at most so many digits.
+const LONGEST_VALUE: usize = 20;
+
 /// What a counter says.
 #[derive(Clone, Copy)]
 enum Output {
@@ -66,7 +69,7 @@ fn text(alloc: Global, says: Output) -> Result<Bytes, Memory>
 {
     match says {
         Output::Value(value) => {
-            let mut text = Bytes::new(alloc);
+            let mut text = Bytes::with_capacity(alloc, LONGEST_VALUE)?;
             put_decimal(&mut text, value)?;
             Ok(text)
         }

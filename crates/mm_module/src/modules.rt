@@ -60,7 +60,11 @@ pub trait Module {
             ≡ (meaning self.now).says state.now request.now) }
     {
         let Stepped { state, output } = self.step(alloc, state, request)?;
-        into.append(state.as_slice())?;
+        if into.as_slice().is_empty() {
+            *into = state;
+        } else {
+            into.append(state.as_slice())?;
+        }
         Ok(output)
     }
 

@@ -5,24 +5,29 @@ ghost use Rattle.std.specs.Prelude.{◌≡◌, [], ◌∷◌, ◌++◌, ◌==◌
 use mm_base::{Bytes, Memory};
 use std::alloc::Global;
 use std::marker::Model;
+use std::mem;
+
+/// Outputs: one, which takes no memory besides its own, or a list.
+#[derive(Debug, Drop)]
+enum OutputItems {
+    One(Bytes),
+    Many(Vec<Bytes>),
+}
 
 /// The outputs of the members of a batch, in order. Contracts see the list of their byte lists.
-/// The first stands apart, so that the output of one request takes no memory besides its own.
-#[derive(Debug, Drop)]
+#[derive(Drop)]
 pub struct Outputs {
-    first: Option<Bytes>,
-    rest: Vec<Bytes>,
+    alloc: Global,
+    items: OutputItems,
 }
 
 impl Model for Outputs {
     ghost use Rattle.std.specs.Prelude.{List, ℕ};
-    ghost use Rattle.mm_module.specs.Outputs.{listed_outputs, BeginsAtFirst};
+    ghost use Rattle.mm_module.specs.Outputs.{listed_outputs};
 
     ghost Value = { List (List ℕ) };
 
-    ghost view = { λ outputs. listed_outputs outputs.first outputs.rest.items };
-
-    ghost invariant = { λ outputs. BeginsAtFirst outputs.first outputs.rest.items };
+    ghost view = { λ outputs. listed_outputs outputs.items };
 }
 
 impl Outputs {
@@ -31,8 +36,18 @@ impl Outputs {
         ensures { result ≡ [] }
     {
         Outputs {
-            first: None,
-            rest: Vec::new(alloc),
+            alloc,
+            items: OutputItems::Many(Vec::new(alloc)),
+        }
+    }
+
+    /// One output. Takes no memory.
+    pub fn one(alloc: Global, output: Bytes) -> Outputs
+        ensures { result ≡ output ∷ [] }
+    {
+        Outputs {
+            alloc,
+            items: OutputItems::One(output),
         }
     }
 
@@ -41,21 +56,28 @@ impl Outputs {
         ensures ok { OnOk result (self.new ≡ self.old ++ output ∷ []) }
         ensures err { OnErr result (self.new ≡ self.old) }
     {
-        if self.first.is_none() {
-            self.first = Some(output);
-            return Ok(());
+        match &mut self.items {
+            OutputItems::Many(items) => {
+                items.push(output)?;
+                Ok(())
+            }
+            OutputItems::One(first) => {
+                let mut items = Vec::with_capacity(self.alloc, 2)?;
+                items.push_reserved(mem::replace(first, Bytes::new(self.alloc)));
+                items.push_reserved(output);
+                self.items = OutputItems::Many(items);
+                Ok(())
+            }
         }
-        self.rest.push(output)?;
-        Ok(())
     }
 
     /// The number of outputs.
     pub fn len(&self) -> usize
         ensures { result ≡ length self.now }
     {
-        match self.first {
-            None => 0,
-            Some(_) => self.rest.len() + 1,
+        match &self.items {
+            OutputItems::One(_) => 1,
+            OutputItems::Many(items) => items.len(),
         }
     }
 
@@ -63,17 +85,20 @@ impl Outputs {
     pub fn is_empty(&self) -> bool
         ensures { result ≡ (length self.now == 0) }
     {
-        self.first.is_none()
+        match &self.items {
+            OutputItems::One(_) => false,
+            OutputItems::Many(items) => items.is_empty(),
+        }
     }
 
     /// The output at this index, None from `len` on. Takes no memory.
     pub fn get(&self, i: usize) -> Option<&[u8]>
         ensures { option_copied result ≡ slice_get self.now i }
     {
-        let output = match &self.first {
-            Some(first) if i == 0 => first,
-            Some(_) => self.rest.get(i - 1)?,
-            None => return None,
+        let output = match &self.items {
+            OutputItems::One(output) if i == 0 => output,
+            OutputItems::One(_) => return None,
+            OutputItems::Many(items) => items.get(i)?,
         };
         Some(output.as_slice())
     }
@@ -83,10 +108,13 @@ impl Outputs {
         requires { length self ≡ 1 }
         ensures { self ≡ result ∷ [] }
     {
-        let Outputs { first, .. } = self;
-        match first {
-            Some(output) => output,
-            None => unreachable!(),
+        let Outputs { items, .. } = self;
+        match items {
+            OutputItems::One(output) => output,
+            OutputItems::Many(mut items) => match items.pop() {
+                Some(output) => output,
+                None => unreachable!(),
+            },
         }
     }
 }

@@ -86,7 +86,7 @@ impl MemPlatform {
         }) }
         ensures err { OnErr result (self.new ≡ self.old) }
     {
-        let kept = Vec::from_slice(*self.meddles.allocator(), meddles)?;
+        let kept = copy_of(*self.meddles.allocator(), meddles)?;
         self.register.reserve(self.spare + kept.len())?;
         self.stop = stop;
         self.meddles = kept;
@@ -232,6 +232,17 @@ impl MemPlatform {
             let_in_due(&mut self.register, self.meddles.as_slice(), before, step);
         }
     }
+}
+
+// A copy of these meddles. Where there are none it takes no memory.
+#[inline(always)]
+fn copy_of(alloc: Global, meddles: &[Meddle]) -> Result<Vec<Meddle>, Memory>
+    ensures { IfOk result (λ copy. copy.items ≡ meddles.now) }
+{
+    if meddles.is_empty() {
+        return Ok(Vec::new(alloc));
+    }
+    Ok(Vec::from_slice(alloc, meddles)?)
 }
 
 // Lets in those of the meddles that are due at this step, where `before` steps are over.

@@ -204,10 +204,15 @@ pub fn meddles_in(line: &[u8]) -> Option<(Meddles, &[u8])>
 }
 
 /// Puts the meddles that a line begins with in place of these, and answers what follows them.
+#[tactic(auto, unfolding(crate::specs::Grammar::meddles_at))]
+#[inline(always)]
 fn read_meddles<'a>(meddles: &mut Meddles, line: &'a [u8]) -> Option<&'a [u8]>
     ensures { option_map (texts.meddles_in_place meddles.new) result ≡ meddles_at 8 0 line.now }
 {
     meddles.count = 0;
+    if after(b"meddle ", line).is_none() {
+        return Some(line);
+    }
     more_meddles(meddles, 0, line)
 }
 

@@ -1,6 +1,6 @@
 //! The key that snapshots are sealed under, which remembers what it sealed last.
 
-ghost use Rattle.std.specs.Prelude.{◌≡◌, IfSome, IsSome, option_copied};
+ghost use Rattle.std.specs.Prelude.{◌≡◌, IfSome, IsSome};
 
 use crate::snapshot::{Body, Offered, front};
 use mm_base::{Bytes, Memory};
@@ -96,9 +96,9 @@ impl SealingKey {
         ensures { IfSome result (λ it. it.now.tag.bytes ≡ hmac_of self.now it.now.text.items) }
     {
         if self.last_is_second {
-            lent(&self.second)
+            self.second.as_ref()
         } else {
-            lent(&self.first)
+            self.first.as_ref()
         }
     }
 
@@ -107,9 +107,9 @@ impl SealingKey {
         ensures { IfSome result (λ it. it.now.tag.bytes ≡ hmac_of self.now it.now.text.items) }
     {
         if self.last_is_second {
-            lent(&self.first)
+            self.first.as_ref()
         } else {
-            lent(&self.second)
+            self.second.as_ref()
         }
     }
 
@@ -271,17 +271,6 @@ impl TaggedText {
         } else {
             None
         }
-    }
-}
-
-// The text in a place, where there is one.
-#[inline(always)]
-fn lent(place: &Option<TaggedText>) -> Option<&TaggedText>
-    ensures { option_copied result ≡ place.now }
-{
-    match place {
-        Some(tagged) => Some(tagged),
-        None => None,
     }
 }
 
