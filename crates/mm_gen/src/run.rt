@@ -1,6 +1,6 @@
 //! A generated schedule, run from its first line to its last.
 
-ghost use Rattle.std.specs.Prelude.{◌≡◌, ◌≤◌, ℕ, List, length, true, is_some, Some, Err, IfOk};
+ghost use Rattle.std.specs.Prelude.{◌≡◌, ◌<◌, ◌≤◌, ◌++◌, ℕ, List, length, true, is_some, Some, Err, IfOk, OnOk};
 ghost use Rattle.sha2.specs.Sha256.{sha256};
 ghost use Rattle.mm_base.specs.Limits.{longest_line, most_events};
 ghost use Rattle.mm_schedule.specs.Grammar.{event_at};
@@ -8,17 +8,18 @@ ghost use Rattle.mm_schedule.specs.Replies.{IsPrintable};
 ghost use Rattle.mm_gen.specs.Schedules.{schedule_lines};
 ghost use Rattle.mm_replay.specs.Progress.{running_replay};
 ghost use Rattle.mm_replay.specs.Schedule.{first_running_replay, is_too_much};
+ghost use Rattle.mm_replay.specs.Text.{text_of_replies};
 ghost use Rattle.mm_gen.specs.Limits.{IsLimited, RunsLine, is_over};
 ghost use Rattle.mm_gen.specs.LineBreaks.{line_at};
 ghost use Rattle.mm_gen.specs.Replay.{IsReplayed, replay_of};
-ghost use Rattle.mm_gen.specs.Sums.{SumsUp};
+ghost use Rattle.mm_gen.specs.Sums.{SumsUp, counts_after_reply, total};
 
 use crate::breaks::first_line;
 use crate::counts::ReplyCounts;
 use crate::fault::BulkFault;
 use crate::schedule::gen_;
 use crate::summary::Summary;
-use mm_base::Bytes;
+use mm_base::{Bytes, Memory};
 use mm_digest::Digest;
 use mm_play::{LineRefusal, ReplyFault};
 use mm_replay::{ReplayProgress, put_reply};
@@ -58,8 +59,7 @@ fn bulk_inner(alloc: Global, number: u64, count: u32, header: &Header) -> Result
     let mut replies = Bytes::new(alloc);
     'lines: while let Some((line, behind)) = first_line(rest) {
         let reply = answered(alloc, line, &mut progress)?;
-        counts.count(&reply);
-        put_reply(&reply, &mut replies)?;
+        tally(reply, &mut counts, &mut replies)?;
         rest = behind;
     }
     progress.put_last_line(&mut replies)?;
@@ -70,6 +70,17 @@ fn bulk_inner(alloc: Global, number: u64, count: u32, header: &Header) -> Result
         issued: report.issued,
         replies: digest_of(replies.as_slice()),
     })
+}
+
+/// Counts a reply, and puts its lines at the end.
+fn tally(reply: Reply, counts: &mut ReplyCounts, replies: &mut Bytes) -> Result<(), Memory>
+    requires room { total counts.old < most_events }
+    requires printable { IsPrintable reply }
+    ensures counted { counts.new ≡ counts_after_reply counts.old reply }
+    ensures put { OnOk result (replies.new ≡ replies.old ++ text_of_replies reply) }
+{
+    counts.count(&reply);
+    put_reply(&reply, replies)
 }
 
 /// What follows the first line.

@@ -20,25 +20,11 @@ answered-requires-clause-short c = (next _ _ _ _ _ _ _ c.lines.invariant.going (
 pub answered-requires-clause-known : goal.answered-requires-clause-known
 answered-requires-clause-known c = (next _ _ _ _ _ _ _ c.lines.invariant.going (sym c.in-Some.ensures)).known
 
-pub count-requires : goal.count-requires
-count-requires c = (next _ _ _ _ _ _ _ c.lines.invariant.going (sym c.in-Some.ensures)).room
-
-pub lines-smaller-in_ok-put_reply : goal.lines-smaller-in_ok-put_reply
-lines-smaller-in_ok-put_reply c = (next _ _ _ _ _ _ _ c.lines.invariant.going (sym c.in-Some.ensures)).less
+pub tally-requires-clause-room : goal.tally-requires-clause-room
+tally-requires-clause-room c = (next _ _ _ _ _ _ _ c.lines.invariant.going (sym c.in-Some.ensures)).room
 
 pub lines-smaller : goal.lines-smaller
 lines-smaller c = (next _ _ _ _ _ _ _ c.lines.invariant.going (sym c.in-Some.ensures)).less
-
-pub lines-preserved-in_ok-put_reply : goal.lines-preserved-in_ok-put_reply
-lines-preserved-in_ok-put_reply c =
-    let step = next _ _ _ _ _ _ _ c.lines.invariant.going (sym c.in-Some.ensures) in
-    record {
-      going = goes_on _ _ _ (running_replay c.answered.new.progress) _ _ _ _ c.in-Some.line.now c.in-Some.behind.now
-          c.in_ok-reply.reply step
-          c.in_ok-reply.ensures.reply c.count.ensures.counted c.in_ok-put_reply.ensures;
-      header = step.header c.in_ok-reply.reply (running_replay c.answered.new.progress) c.in_ok-reply.ensures.reply
-          ∙ c.lines.invariant.header;
-    }
 
 pub lines-preserved : goal.lines-preserved
 lines-preserved c =
@@ -46,7 +32,7 @@ lines-preserved c =
     record {
       going = goes_on _ _ _ (running_replay c.answered.new.progress) _ _ _ _ c.in-Some.line.now c.in-Some.behind.now
           c.in_ok-reply.reply step
-          c.in_ok-reply.ensures.reply c.count.ensures.counted c.in_ok-put_reply.ensures;
+          c.in_ok-reply.ensures.reply c.tally.ensures.counted c.in_ok-tally.ensures.put;
       header = step.header c.in_ok-reply.reply (running_replay c.answered.new.progress) c.in_ok-reply.ensures.reply
           ∙ c.lines.invariant.header;
     }
