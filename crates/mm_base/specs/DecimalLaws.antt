@@ -11,7 +11,7 @@ use Rattle.std.specs.Char.{digit_value, is_ascii_digit}
 use Rattle.std.specs.Fmt.{decimal}
 use Rattle.std.specs.List.{list_all}
 use Rattle.std.specs.Str.Parse.{digits_value, digits_value_after}
-use Rattle.mm_base.specs.Decimals.{is_decimal, decimal_number, number_in_64_bits}
+use Rattle.mm_base.specs.Decimals.{is_decimal, decimal_number, within_64_bits}
 
 -- a text of digits, and its value
 abbrev AreDigits : List ℕ → Type 0
@@ -77,7 +77,7 @@ unfolding decimal_number
 none_without_form ds form = rw form refl
 
 -- a decimal writes the number of its digits
-pub number_of_digits : (ds : List ℕ) → is_decimal ds ≡ true → number_in_64_bits (digits_value_after 10 0 ds) ≡ decimal_number ds
+pub number_of_digits : (ds : List ℕ) → is_decimal ds ≡ true → within_64_bits (digits_value_after 10 0 ds) ≡ decimal_number ds
 unfolding decimal_number
 number_of_digits ds form = rw form refl
 
@@ -95,7 +95,7 @@ pub digit_behind : (n d : ℕ) (ds : List ℕ) → is_ascii_digit d ≡ true
 digit_behind n d ds is = ap (λ (digit : ℕ). digits_value_after 10 (n * 10 + digit) ds) (value_of_digit d is)
 
 -- too great, and so it stays
-too_great : (n : ℕ) (ds : List ℕ) → 2 ^ 64 ≤ n → None ≡ number_in_64_bits (digits_value_after 10 n ds)
+too_great : (n : ℕ) (ds : List ℕ) → 2 ^ 64 ≤ n → None ≡ within_64_bits (digits_value_after 10 n ds)
 too_great n ds great =
     let more : n ≤ digits_value_after 10 n ds = value_behind n ds in
     grind (arith, common_steps, nat_tests)
@@ -105,7 +105,7 @@ first_digit d ds are = grind (arith, common_steps, nat_tests)
 
 -- with its first digit the number is too great already
 pub too_great_with : (n d : ℕ) (ds digits : List ℕ) → digits ≡ d ∷ ds → IsTrue (list_all is_ascii_digit digits)
-    → ¬ (n * 10 + (d - 48) < 2 ^ 64) → None ≡ number_in_64_bits (digits_value_after 10 n digits)
+    → ¬ (n * 10 + (d - 48) < 2 ^ 64) → None ≡ within_64_bits (digits_value_after 10 n digits)
 too_great_with n d ds digits is are great =
     rw (is, digit_behind n d ds (first_digit d ds (subst (λ (l : List ℕ). IsTrue (list_all is_ascii_digit l)) is are)))
     (too_great (n * 10 + (d - 48)) ds (omega arith))

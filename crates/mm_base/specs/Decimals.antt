@@ -9,9 +9,9 @@ abbrev pub is_decimal : List ℕ → Bool
 is_decimal [] = false
 is_decimal (d ∷ ds) = if d == 48 then length ds == 0 else list_all is_ascii_digit (d ∷ ds)
 
--- a number, if it has at most 64 bits
-abbrev pub number_in_64_bits : ℕ → Option ℕ
-number_in_64_bits n = if nat_lt n (2 ^ 64) then Some n else None
+-- the number, if it has at most 64 bits
+abbrev pub within_64_bits : ℕ → Option ℕ
+within_64_bits n = if nat_lt n (2 ^ 64) then Some n else None
 
 -- the number that a decimal of at most 64 bits writes
 unfoldable pub decimal_number : List ℕ → Option ℕ

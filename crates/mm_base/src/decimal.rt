@@ -5,7 +5,7 @@ ghost use Rattle.std.specs.Fmt.{decimal};
 ghost use Rattle.std.specs.Char.{is_ascii_digit};
 ghost use Rattle.std.specs.List.{list_all};
 ghost use Rattle.std.specs.Str.Parse.{digits_value_after};
-ghost use Rattle.mm_base.specs.Decimals.{is_decimal, decimal_number, number_in_64_bits};
+ghost use Rattle.mm_base.specs.Decimals.{is_decimal, decimal_number, within_64_bits};
 
 use crate::bytes::Bytes;
 use crate::fault::Memory;
@@ -57,7 +57,7 @@ fn parsed(decimal: &[u8]) -> Option<u64>
 #[tactic(auto, using(crate::specs::DecimalLaws::digit_behind))]
 fn number_behind(number: u64, digits: &[u8]) -> Option<u64>
     requires { IsTrue (list_all is_ascii_digit digits.now) }
-    ensures { result ≡ number_in_64_bits (digits_value_after 10 number digits.now) }
+    ensures { result ≡ within_64_bits (digits_value_after 10 number digits.now) }
 {
     let Some((digit, rest)) = digits.split_first() else {
         return Some(number);

@@ -1,7 +1,7 @@
 -- The blocks of HMAC, over plain lists.
 use Rattle.std.proofs.Common.{ℕ, ◌≡◌, ◌+◌, ◌<◌, ◌≤◌, List, [], ◌∷◌, ◌++◌, length, map, get_or, set, take, drop, replicate, bit_xor, ap, sym}
-use Rattle.std.proofs.Common.{◌∙◌, append_assoc}
-use Rattle.std.proofs.lemmas.List.{drop-replicate, take_more, take_more_set, map-append, take_all}
+use Rattle.std.proofs.Common.{◌∙◌, append_assoc, arith}
+use Rattle.std.proofs.lemmas.List.{drop-replicate, take_more, take_more_set, map-append, take_all, take_at, length-append}
 use Rattle.mm_digest.specs.HmacWords.{padded_block, masked_block}
 
 -- bytes written in front of a block of zero bytes are padded with zero bytes
@@ -29,3 +29,10 @@ masked-whole pad i block out h k e =
 -- three parts behind a front, one after another
 pub joined_three : (front a b c : List ℕ) → ((front ++ a) ++ b) ++ c ≡ front ++ (a ++ (b ++ c))
 joined_three front a b c = simp append_assoc
+
+-- what was written at the front of a block: a byte, 32 bytes and a text
+pub front_of_block : (front text back fixed rest : List ℕ) {tag : ℕ} → front ≡ tag ∷ fixed → length fixed ≡ 32 → text ≡ rest →
+    take (33 + length rest) (front ++ (text ++ back)) ≡ tag ∷ (fixed ++ rest)
+front_of_block front text back fixed rest {tag} e size f =
+    rw (e, f) (ap (λ (x : List ℕ). take (33 + length rest) (tag ∷ x)) (sym (append_assoc fixed rest back))
+    ∙ take_at (tag ∷ (fixed ++ rest)) back (33 + length rest) (omega (arith, size, length-append fixed rest)))

@@ -1,14 +1,9 @@
 -- The sizes of digests: each has 32 bytes, each below 256.
-use Rattle.std.proofs.Common.{ℕ, ◌≡◌, ◌<◌, zero, suc, List, [], ◌∷◌, length, refl, lit<}
-use Rattle.std.proofs.lemmas.Nat.{mod_below}
-use Rattle.std.proofs.lemmas.List.Elements.{All-append, All-nil, All-cons, All-replicate}
-use Rattle.std.specs.Int.{to_be_bytes, byte_at, w32}
-use Rattle.std.specs.Prelude.{slice_index}
-use Rattle.sha2.specs.Sha256.{sha256, digest_bytes, final_hash, initial_hash_256}
+use Rattle.std.proofs.Common.{ℕ, ◌≡◌, ◌<◌, List, [], ◌∷◌, length, refl}
+use Rattle.std.proofs.lemmas.List.Elements.{All-nil, All-cons}
 use Rattle.sha2.proofs.Facts256.{length-sha256}
 use Rattle.mm_digest.specs.declared.variant.Variant.{Variant}
 use Rattle.mm_digest.specs.Messages.{IsBytes, zero_bytes, start_digest_of, anchored_digest_of, extended_digest_of}
-use Rattle.mm_digest.specs.MessagesWords.{successor_digest_of, secured_digest_of, successor_batch_digest_of, secured_batch_digest_of}
 use Rattle.mm_digest.specs.Hmac.{hmac_of}
 
 four_bytes : (a b c d : ℕ) → a < 256 → b < 256 → c < 256 → d < 256 → IsBytes (a ∷ b ∷ c ∷ d ∷ [])

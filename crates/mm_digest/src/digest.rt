@@ -1,6 +1,6 @@
 //! The digests of a platform's history, each SHA-256 of one message.
 
-ghost use Rattle.std.specs.Prelude.{◌≡◌, [], ◌∷◌, ◌++◌};
+ghost use Rattle.std.specs.Prelude.{◌≡◌, ◌<◌, [], ◌∷◌, ◌++◌, length};
 ghost use Rattle.sha2.specs.Sha256.{sha256};
 ghost use Rattle.mm_digest.specs.Messages.{zero_bytes, start_digest_of, anchored_digest_of, extended_digest_of};
 ghost use Rattle.mm_digest.specs.MessagesWords.{successor_digest_of, secured_digest_of, successor_batch_digest_of, secured_batch_digest_of};
@@ -102,11 +102,29 @@ fn joined(first: &[u8; 32], second: &[u8; 32]) -> [u8; 64]
 fn tagged(tag: u8, fixed: &[u8; 32], rest: &[u8]) -> Digest
     ensures { result.bytes ≡ sha256 (tag ∷ (fixed.now ++ rest.now)) }
 {
+    if rest.len() < 32 {
+        return tagged_in_block(tag, fixed, rest);
+    }
     let mut hasher = Sha256::new();
     hasher.update(&front_of(tag, fixed));
     hasher.update(rest);
     Digest {
         bytes: hasher.finalize(),
+    }
+}
+
+// The same of a rest that fits into a block with them, which is hashed at once.
+fn tagged_in_block(tag: u8, fixed: &[u8; 32], rest: &[u8]) -> Digest
+    requires { length rest.now < 32 }
+    ensures { result.bytes ≡ sha256 (tag ∷ (fixed.now ++ rest.now)) }
+{
+    let mut block = [0; 64];
+    let (front, behind) = block.split_at_mut(33);
+    front.copy_from_slice(&front_of(tag, fixed));
+    let (text, _) = behind.split_at_mut(rest.len());
+    text.copy_from_slice(rest);
+    Digest {
+        bytes: Sha256::digest(&block[..33 + rest.len()]),
     }
 }
 

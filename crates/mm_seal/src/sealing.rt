@@ -171,7 +171,8 @@ impl SealingKey {
         Ok(bytes)
     }
 
-    /// The same, of a content that wasn't sealed before: it isn't sought in what is remembered.
+    /// The same, of a content that was seldom sealed before: of what is remembered it is sought in
+    /// the last text alone, which is its own where a device failed behind it.
     #[tactic(auto, unfolding(crate::specs::Snapshot::sealed_snapshot_of))]
     #[inline(always)]
     pub fn seal_new(&mut self, alloc: Global, body: &Body<'_>) -> Result<Bytes, Memory>
@@ -182,7 +183,10 @@ impl SealingKey {
         ensures same { self.new ≡ self.old }
     {
         let mut bytes = front(alloc, body)?;
-        let tag = self.tag_kept(alloc, bytes.as_slice());
+        let tag = match tag_in(self.last(), bytes.as_slice()) {
+            Some(tag) => tag,
+            None => self.tag_kept(alloc, bytes.as_slice()),
+        };
         bytes.append(&tag.bytes)?;
         Ok(bytes)
     }
