@@ -1,4 +1,5 @@
 mod Below
 mod ListingLaws
+mod MessageLaws
 pub mod SetLaws
 pub mod GuardLaws

@@ -1,11 +1,11 @@
 //! The digests of messages by their numbers.
 
-ghost use Rattle.std.specs.Prelude.{◌≡◌, ◌+◌, ◌-◌, ◌<◌, ◌≤◌, ◌^◌, ◌++◌, [], ◌∷◌, ℕ, List, Option, OnOk, if◌then◌else◌};
+ghost use Rattle.std.specs.Prelude.{◌≡◌, ◌+◌, ◌-◌, ◌<◌, ◌≤◌, ◌^◌, [], ℕ, List, Option, Some, option_copied, OnOk, if◌then◌else◌};
 ghost use Rattle.std.specs.BTreeMap.{get};
 ghost use Rattle.std.specs.Cmp.Lexicographic.{slice_cmp};
 ghost use Rattle.std.specs.Ordering.{nat_cmp, is_eq};
 ghost use Rattle.mm_numbering.specs.Listing.{first_number_of, is_zero, lower_pair};
-ghost use Rattle.mm_numbering.specs.Lists.{pair_of, CountsDigests};
+ghost use Rattle.mm_numbering.specs.Lists.{pair_of, first_at, AddsDigest, TakesFirst, CountsDigests};
 
 use mm_base::Memory;
 use mm_digest::{Digest, zero};
@@ -29,11 +29,18 @@ pub struct NumberPair {
     pub second: u32,
 }
 
-/// The digests listed so far, by the number of the first message of each; how many messages there
-/// are; the first two that share a digest; and the first whose digest is zero.
+/// The first message of a digest.
+#[derive(Drop)]
+pub struct FirstMessage {
+    pub number: u32,
+    pub text: Vec<u8>,
+}
+
+/// The digests listed so far, by the first message of each; how many messages there are; the first
+/// two that share a digest; and the first whose digest is zero.
 #[derive(Drop)]
 pub struct DigestIndex {
-    firsts: BTreeMap<[u8; 32], u32>,
+    firsts: BTreeMap<[u8; 32], FirstMessage>,
     pub count: u32,
     pub shared: Option<NumberPair>,
     pub zero: Option<u32>,
@@ -59,13 +66,17 @@ fn is_zero(digest: &Digest) -> bool
     *digest == zero()
 }
 
-/// Notes this number at a digest.
-fn put(firsts: &mut BTreeMap<[u8; 32], u32>, digest: [u8; 32], number: u32) -> Result<(), Memory>
+/// Notes this message at a digest.
+fn put(
+    firsts: &mut BTreeMap<[u8; 32], FirstMessage>,
+    digest: [u8; 32],
+    first: FirstMessage,
+) -> Result<(), Memory>
     ensures { OnOk result ((d : List ℕ) → get (slice_cmp nat_cmp) firsts.new d
-        ≡ (if is_eq (slice_cmp nat_cmp digest d) then Some number
+        ≡ (if is_eq (slice_cmp nat_cmp digest d) then Some first
         else get (slice_cmp nat_cmp) firsts.old d)) }
 {
-    match firsts.insert(digest, number) {
+    match firsts.insert(digest, first) {
         Ok(_) => Ok(()),
         Err(_) => Err(Memory),
     }
@@ -84,22 +95,50 @@ impl DigestIndex {
         }
     }
 
-    /// One more message, with this digest.
-    pub fn add(&mut self, digest: Digest) -> Result<(), Memory>
+    /// The first message of a digest.
+    pub fn first(&self, digest: &Digest) -> Option<&FirstMessage>
+        ensures { option_copied result ≡ first_at self.now digest.now.bytes }
+    {
+        self.firsts.get(&digest.bytes)
+    }
+
+    /// One more message, the first of its digest.
+    pub fn add_first(&mut self, alloc: Global, digest: Digest, text: &[u8]) -> Result<(), Memory>
         requires { self.old.count < 2 ^ 32 - 1 }
         ensures rises { self.new.count ≤ self.old.count + 1 }
-        ensures counts { (digests : List (List ℕ)) → CountsDigests digests self.old
-            → OnOk result (CountsDigests (digests ++ digest.bytes ∷ []) self.new) }
+        ensures adds { OnOk result (AddsDigest digest.bytes self.old self.new) }
+        ensures shared { self.new.shared ≡ self.old.shared }
+        ensures first { OnOk result (TakesFirst text.now digest.bytes self.old self.new) }
     {
-        let number = self.count + 1;
-        match self.firsts.get(&digest.bytes) {
-            Some(first) => self.shared = lower(self.shared, *first, number),
-            None => {
-                put(&mut self.firsts, digest.bytes, number)?;
-            }
-        }
-        self.zero = first_then(self.zero, is_zero(&digest), number);
-        self.count = number;
+        let first = FirstMessage {
+            number: self.count + 1,
+            text: Vec::from_slice(alloc, text)?,
+        };
+        put(&mut self.firsts, digest.bytes, first)?;
+        self.count_one(&digest);
         Ok(())
+    }
+
+    /// One more message, of a digest whose first message has this number.
+    pub fn add_shared(&mut self, digest: Digest, first: u32)
+        requires { self.old.count < 2 ^ 32 - 1 }
+        ensures adds { AddsDigest digest.bytes self.old self.new }
+        ensures shared { pair_of self.new.shared
+            ≡ lower_pair (pair_of self.old.shared) first (self.old.count + 1) }
+        ensures same { self.new.firsts ≡ self.old.firsts }
+    {
+        self.shared = lower(self.shared, first, self.count + 1);
+        self.count_one(&digest);
+    }
+
+    // Counts one more message, with this digest.
+    fn count_one(&mut self, digest: &Digest)
+        requires { self.old.count < 2 ^ 32 - 1 }
+        ensures adds { AddsDigest digest.now.bytes self.old self.new }
+        ensures shared { self.new.shared ≡ self.old.shared }
+        ensures same { self.new.firsts ≡ self.old.firsts }
+    {
+        self.count += 1;
+        self.zero = first_then(self.zero, is_zero(digest), self.count);
     }
 }

@@ -5,7 +5,7 @@ ghost use Rattle.std.specs.List.{fold};
 ghost use Rattle.std.specs.Str.{bytes_eq};
 ghost use Rattle.sha2.specs.Sha256.{sha256};
 ghost use Rattle.mm_numbering.specs.Listing.{messages_with};
-ghost use Rattle.mm_numbering.specs.Lists.{has_message, ListsMessages};
+ghost use Rattle.mm_numbering.specs.Lists.{has_message, HasOtherFirst, ListsMessages};
 
 use crate::digests::DigestIndex;
 use mm_base::{Bytes, Memory};
@@ -14,10 +14,11 @@ use sha2::{Digest as _, Sha256};
 use std::alloc::Global;
 use std::collections::BTreeSet;
 
-/// The messages listed so far, each once.
+/// The messages listed so far, each once: by their digests the first of each, and apart from these
+/// the others, of which there are none as long as no two different messages share a digest.
 #[derive(Drop)]
 pub struct Numbers {
-    seen: BTreeSet<Vec<u8>>,
+    others: BTreeSet<Vec<u8>>,
     pub digests: DigestIndex,
 }
 
@@ -48,7 +49,7 @@ impl Numbers {
         ensures { ListsMessages [] result }
     {
         Numbers {
-            seen: BTreeSet::new(alloc),
+            others: BTreeSet::new(alloc),
             digests: DigestIndex::new(alloc),
         }
     }
@@ -60,8 +61,34 @@ impl Numbers {
             → OnOk result (ListsMessages (messages_with seen message.now) self.new) }
         ensures rises { self.new.digests.count ≤ self.old.digests.count + 1 }
     {
-        if keep(&mut self.seen, alloc, message)? {
-            return self.digests.add(digest_of(message));
+        let digest = digest_of(message);
+        match self.digests.first(&digest) {
+            None => self.digests.add_first(alloc, digest, message),
+            Some(first) if first.text.as_slice() == message => Ok(()),
+            Some(first) => {
+                let number = first.number;
+                self.list_other(alloc, digest, number, message)
+            }
+        }
+    }
+
+    // Lists a message whose digest is another message's, of this number, if it hasn't come before.
+    fn list_other(
+        &mut self,
+        alloc: Global,
+        digest: Digest,
+        first: u32,
+        message: &[u8],
+    ) -> Result<(), Memory>
+        requires count { self.old.digests.count < 2 ^ 32 - 1 }
+        requires digest { digest.bytes ≡ sha256 message.now }
+        requires other { HasOtherFirst self.old.digests first message.now }
+        ensures lists { (seen : List (List ℕ)) → ListsMessages seen self.old
+            → OnOk result (ListsMessages (messages_with seen message.now) self.new) }
+        ensures rises { self.new.digests.count ≤ self.old.digests.count + 1 }
+    {
+        if keep(&mut self.others, alloc, message)? {
+            self.digests.add_shared(digest, first);
         }
         Ok(())
     }

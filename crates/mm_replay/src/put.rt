@@ -8,6 +8,7 @@ use mm_base::{Bytes, Memory};
 use mm_schedule::{Reply, put_line, reply_lines};
 
 /// Puts the lines of a reply at the end.
+#[inline(always)]
 pub fn put_reply(reply: &Reply, into: &mut Bytes) -> Result<(), Memory>
     requires { IsPrintable reply.now }
     ensures { OnOk result (into.new ≡ into.old ++ text_of_replies reply.now) }

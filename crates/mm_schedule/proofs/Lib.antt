@@ -5,6 +5,7 @@ mod MeddleLaws
 mod PrintLaws
 mod RunLaws
 mod Fronts
+mod AskLaws
 mod ReadIsSpelled
 mod HeaderLaws
 mod SpelledIsRead

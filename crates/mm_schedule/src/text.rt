@@ -49,9 +49,20 @@ pub enum EventText<'a> {
     },
 }
 
-/// The event of a line, with its meddles put into `meddles`.
-#[tactic(auto, unfolding(crate::specs::Grammar::event_at))]
+/// The event of a line, with its meddles put into `meddles`. Most lines ask at once.
 pub fn event_in<'a>(line: &'a [u8], meddles: &mut Meddles) -> Option<EventText<'a>>
+    ensures { option_map (texts.event_in (meddles_of meddles.new)) result ≡ event_at line.now }
+{
+    if after(b"ask ", line).is_some() {
+        meddles.count = 0;
+        return call_in(Stop::Quiet, line);
+    }
+    any_event_in(line, meddles)
+}
+
+/// The same, whatever the line begins with.
+#[tactic(auto, unfolding(crate::specs::Grammar::event_at))]
+fn any_event_in<'a>(line: &'a [u8], meddles: &mut Meddles) -> Option<EventText<'a>>
     ensures { option_map (texts.event_in (meddles_of meddles.new)) result ≡ event_at line.now }
 {
     if is_text(line, b"power") {
