@@ -1,8 +1,8 @@
 -- The messages listed, once one more is.
 use Rattle.mm_numbering.proofs.Below.{◌≡◌, ◌∙◌, ℕ, ◌+◌, Bool, true, false, cond, List, [], ◌∷◌, ◌++◌, Option, None, Some, refl, sym, ap, ◌||◌, not}
-use Rattle.mm_numbering.proofs.Below.{map-append, option_map_or, bytes_eq, bytes_eq-Decides, slice_cmp, nat_cmp, is_eq, is_eq-slice_cmp}
+use Rattle.mm_numbering.proofs.Below.{map-append, option_map_or, bytes_eq, bytes_eq-Decides, slice_cmp, nat_cmp, is_eq-slice_cmp}
 use Rattle.mm_numbering.proofs.Below.{list_any, list_any-append, sha256, messages_with, message_digests, lower_pair, pair_of}
-use Rattle.mm_numbering.proofs.Below.{AddsDigest, TakesFirst, FirstMessage, first_at, number_in, number_at, CountsDigests}
+use Rattle.mm_numbering.proofs.Below.{AddsDigest, TakesFirst, FirstMessage, first_at, number_in, number_at}
 use Rattle.mm_numbering.proofs.Below.{has_message, HasOtherFirst, is_listed, ListsMessages}
 use Rattle.std.specs.BTreeMap.{get}
 use Rattle.std.proofs.Common.{Result, Ok, Err, OnOk}
