@@ -76,8 +76,8 @@ fn weigh<M: Module>(
     let key = keys.under(&cell.key);
     vet(ask.module, key, offered)?;
     let here = summary_in(&body.place);
-    let next = link(&here, normal(ask.batch));
-    let verdict = verdict(&cell.summary, &here, &next);
+    let next = link(here, normal(ask.batch));
+    let verdict = verdict(&cell.summary, here, &next);
     let again = admit_batch(offered, ask.batch, verdict)?;
     let answer = match answer(
         ask.alloc,
@@ -99,12 +99,12 @@ fn weigh<M: Module>(
 }
 
 // The summary of a place of Basic.
-fn summary_in(place: &Place) -> Digest
+fn summary_in(place: &Place) -> &Digest
     requires { variant_of place.now ≡ Basic }
-    ensures { result.bytes ≡ summary_in place.now }
+    ensures { result.now.bytes ≡ summary_in place.now }
 {
     match place {
-        Place::Basic(summary) => *summary,
+        Place::Basic(summary) => summary,
         Place::Opt { .. } => unreachable!(),
     }
 }

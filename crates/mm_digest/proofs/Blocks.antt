@@ -30,9 +30,9 @@ masked-whole pad i block out h k e =
 pub joined_three : (front a b c : List ℕ) → ((front ++ a) ++ b) ++ c ≡ front ++ (a ++ (b ++ c))
 joined_three front a b c = simp append_assoc
 
--- what was written at the front of a block: a byte, 32 bytes and a text
-pub front_of_block : (front text back fixed rest : List ℕ) {tag : ℕ} → front ≡ tag ∷ fixed → length fixed ≡ 32 → text ≡ rest →
-    take (33 + length rest) (front ++ (text ++ back)) ≡ tag ∷ (fixed ++ rest)
-front_of_block front text back fixed rest {tag} e size f =
-    rw (e, f) (ap (λ (x : List ℕ). take (33 + length rest) (tag ∷ x)) (sym (append_assoc fixed rest back))
+-- what was written at the front of a block behind a byte: 32 bytes and a text
+pub front_of_block : (tag : ℕ) (front middle text back fixed rest : List ℕ) → front ≡ tag ∷ [] → middle ≡ fixed → length fixed ≡ 32
+    → text ≡ rest → take (33 + length rest) (front ++ (middle ++ (text ++ back))) ≡ tag ∷ (fixed ++ rest)
+front_of_block tag front middle text back fixed rest d e size f =
+    rw (d, e, f) (ap (λ (x : List ℕ). take (33 + length rest) (tag ∷ x)) (sym (append_assoc fixed rest back))
     ∙ take_at (tag ∷ (fixed ++ rest)) back (33 + length rest) (omega (arith, size, length-append fixed rest)))

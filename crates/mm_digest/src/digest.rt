@@ -118,9 +118,10 @@ fn tagged_in_block(tag: u8, fixed: &[u8; 32], rest: &[u8]) -> Digest
     requires { length rest.now < 32 }
     ensures { result.bytes ≡ sha256 (tag ∷ (fixed.now ++ rest.now)) }
 {
-    let mut block = [0; 64];
-    let (front, behind) = block.split_at_mut(33);
-    front.copy_from_slice(&front_of(tag, fixed));
+    let mut block = [tag; 64];
+    let (_, behind) = block.split_at_mut(1);
+    let (middle, behind) = behind.split_at_mut(32);
+    middle.copy_from_slice(fixed);
     let (text, _) = behind.split_at_mut(rest.len());
     text.copy_from_slice(rest);
     Digest {

@@ -6,7 +6,7 @@ ghost use Rattle.mm_platform.specs.declared.plan.Meddle.{Meddle};
 ghost use Rattle.mm_schedule.specs.declared.fault.EventFault.{EventFault};
 ghost use Rattle.mm_schedule.specs.Events.{event_of, meddles_of};
 ghost use Rattle.mm_schedule.specs.Grammar.{call_at, event_at, fail_stop_at, meddle_at, meddles_at, offer_at, prefixed_call_at, raw_offer_at, stop_at, stop_step_at};
-ghost use Rattle.mm_schedule.specs.GrammarWords.{flip_at};
+ghost use Rattle.mm_schedule.specs.GrammarWords.{ask_at, flip_at};
 ghost use Rattle.mm_schedule.specs.Texts as texts;
 ghost use Rattle.mm_schedule.specs.Words.{bytes_at};
 
@@ -53,9 +53,9 @@ pub enum EventText<'a> {
 pub fn event_in<'a>(line: &'a [u8], meddles: &mut Meddles) -> Option<EventText<'a>>
     ensures { option_map (texts.event_in (meddles_of meddles.new)) result ≡ event_at line.now }
 {
-    if after(b"ask ", line).is_some() {
+    if let Some(words) = after(b"ask ", line) {
         meddles.count = 0;
-        return call_in(Stop::Quiet, line);
+        return ask_in(Stop::Quiet, words);
     }
     any_event_in(line, meddles)
 }
@@ -95,13 +95,8 @@ fn call_in(stop: Stop, line: &[u8]) -> Option<EventText<'_>>
     if is_text(line, b"checkpoint") {
         return Some(EventText::Checkpoint { stop });
     }
-    if let Some(line) = after(b"ask ", line) {
-        let (from, request) = offer_in(line)?;
-        return Some(EventText::Ask {
-            stop,
-            from,
-            request,
-        });
+    if let Some(words) = after(b"ask ", line) {
+        return ask_in(stop, words);
     }
     let line = after(b"batch ", line)?;
     let (from, members) = offer_in(line)?;
@@ -109,6 +104,20 @@ fn call_in(stop: Stop, line: &[u8]) -> Option<EventText<'_>>
         stop,
         from,
         members,
+    })
+}
+
+/// What is asked of an offer, behind the first word.
+#[inline(always)]
+fn ask_in(stop: Stop, words: &[u8]) -> Option<EventText<'_>>
+    ensures { (meddles : List Meddle)
+        → option_map (texts.event_in meddles) result ≡ ask_at meddles stop words.now }
+{
+    let (from, request) = offer_in(words)?;
+    Some(EventText::Ask {
+        stop,
+        from,
+        request,
     })
 }
 

@@ -40,6 +40,7 @@ impl KeptKey {
 
     /// The key, absorbed: what is kept, where it is of the very same bytes, and otherwise absorbed
     /// anew and kept from then on. Takes no memory.
+    #[inline(always)]
     pub fn under(&mut self, key: &[u8; 32]) -> &mut SealingKey
         ensures { result.now ≡ key.now }
     {
@@ -49,6 +50,7 @@ impl KeptKey {
 }
 
 // Sees to it that this key is kept, absorbed.
+#[inline(always)]
 fn keep(kept: &mut Option<SealingKey>, key: &[u8; 32])
     ensures some { IsSome kept.new }
     ensures same { IfSome kept.new (λ kept. kept ≡ key.now) }
