@@ -5,12 +5,14 @@
 
 mod lists;
 mod marks;
+mod message;
 mod messages;
 mod naming;
 mod waymarks;
 
 pub use lists::HistoryLists;
 pub use marks::HistoryMarks;
+pub use message::Message;
 pub use messages::{anchored_message, joined, list_one, list_place};
 pub use naming::{is_named, names_are_decided};
 pub use waymarks::{SegmentStart, Waymark, Waymarks};

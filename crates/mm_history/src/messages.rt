@@ -2,12 +2,14 @@
 
 ghost use Rattle.std.specs.Prelude.{◌≡◌, ℕ, List, [], ◌∷◌, ◌++◌, IfOk, OnOk};
 ghost use Rattle.std.specs.Str.{bytes_eq};
+ghost use Rattle.sha2.specs.Sha256.{sha256};
 ghost use Rattle.mm_digest.specs.Messages.{zero_bytes, anchored_message, extended_message, extended_digest_of};
 ghost use Rattle.mm_module.specs.Batches.{batch_of};
 ghost use Rattle.mm_model.specs.Chains.{link_message, guard_message};
 ghost use Rattle.mm_model.specs.Messages.{form_messages, point_messages};
 ghost use Rattle.mm_history.specs.OfferMessages.{messages_at_place};
 
+use crate::message::Message;
 use mm_base::{Bytes, Memory};
 use mm_digest::{Digest, anchored, extended, zero};
 use mm_model::guard;
@@ -70,37 +72,57 @@ fn guard_message(alloc: Global, barrier: &[u8; 32], batch: Batch<'_>) -> Result<
 }
 
 /// Lists a message, if there was memory for it.
-pub fn list_one(message: Result<Bytes, Memory>, messages: &mut Vec<Bytes>) -> Result<(), Memory>
+pub fn list_one(message: Result<Bytes, Memory>, messages: &mut Vec<Message>) -> Result<(), Memory>
     ensures { (text : List ℕ) → IfOk message (λ bytes. bytes ≡ text)
         → OnOk result (messages.new.items ≡ messages.old.items ++ text ∷ []) }
 {
-    messages.push(message?)?;
+    messages.push(Message::hashed(message?))?;
+    Ok(())
+}
+
+// The same of a message that has this digest, which isn't hashed again.
+fn list_known(
+    message: Result<Bytes, Memory>,
+    digest: &Digest,
+    messages: &mut Vec<Message>,
+) -> Result<(), Memory>
+    requires { IfOk message (λ bytes. digest.now.bytes ≡ sha256 bytes) }
+    ensures { (text : List ℕ) → IfOk message (λ bytes. bytes ≡ text)
+        → OnOk result (messages.new.items ≡ messages.old.items ++ text ∷ []) }
+{
+    messages.push(Message::known(message?, digest))?;
     Ok(())
 }
 
 // Lists the messages of one form of an offered place, at which the guard may come next.
+#[tactic(auto, unfolding(mm_digest::specs::Messages::extended_digest_of))]
 fn list_form(
     alloc: Global,
     anchor: &Digest,
     extension: &Digest,
     value: &Digest,
-    messages: &mut Vec<Bytes>,
+    messages: &mut Vec<Message>,
 ) -> Result<(), Memory>
     ensures { OnOk result (messages.new.items ≡ messages.old.items
         ++ form_messages anchor.now.bytes extension.now.bytes value.now.bytes) }
 {
     let next = extended(extension, value);
-    list_one(joined(alloc, &extension.bytes, &value.bytes), messages)?;
+    list_known(
+        joined(alloc, &extension.bytes, &value.bytes),
+        &next,
+        messages,
+    )?;
     list_one(anchored_message(alloc, anchor, &next), messages)
 }
 
 // Lists the messages of both forms of an offered place of Opt.
+#[tactic(auto, unfolding(mm_digest::specs::Messages::anchored_digest_of))]
 fn list_point(
     alloc: Global,
     anchor: &Digest,
     extension: &Digest,
     value: &Digest,
-    messages: &mut Vec<Bytes>,
+    messages: &mut Vec<Message>,
 ) -> Result<(), Memory>
     ensures { OnOk result (messages.new.items ≡ messages.old.items
         ++ point_messages anchor.now.bytes extension.now.bytes value.now.bytes) }
@@ -109,23 +131,19 @@ fn list_point(
     if extension.bytes == zero().bytes {
         return Ok(());
     }
-    list_one(anchored_message(alloc, anchor, extension), messages)?;
-    list_form(
-        alloc,
-        &anchored(anchor, extension),
-        &zero(),
-        value,
-        messages,
-    )
+    let shut = anchored(anchor, extension);
+    list_known(anchored_message(alloc, anchor, extension), &shut, messages)?;
+    list_form(alloc, &shut, &zero(), value, messages)
 }
 
 /// Lists the messages of a call that offers this place, rightly, and asks for the batch.
+#[tactic(auto, unfolding(mm_model::specs::Chains::guard))]
 pub fn list_place(
     alloc: Global,
     barrier: &[u8; 32],
     place: &Place,
     batch: Batch<'_>,
-    messages: &mut Vec<Bytes>,
+    messages: &mut Vec<Message>,
 ) -> Result<(), Memory>
     ensures { OnOk result (messages.new.items ≡ messages.old.items
         ++ messages_at_place barrier.now place.now (batch_of batch.entry)) }
@@ -133,8 +151,9 @@ pub fn list_place(
     match place {
         Place::Basic(summary) => list_one(link_message(alloc, summary, batch), messages),
         Place::Opt { anchor, extension } => {
-            list_one(guard_message(alloc, barrier, batch), messages)?;
-            list_point(alloc, anchor, extension, &guard(barrier, batch), messages)
+            let value = guard(barrier, batch);
+            list_known(guard_message(alloc, barrier, batch), &value, messages)?;
+            list_point(alloc, anchor, extension, &value, messages)
         }
     }
 }
