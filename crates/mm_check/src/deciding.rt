@@ -13,6 +13,7 @@ use crate::lines::{put_last, put_reply};
 use crate::verdicts::Premise;
 use mm_base::{Bytes, Memory};
 use mm_expect::{Expectation, ExpectedOutcome};
+use mm_history::Message;
 use mm_module::Module;
 use mm_numbering::{Numbers, first_secured};
 use mm_schedule::{Event, Header};
@@ -57,8 +58,8 @@ impl Decider {
         requires new { IsNewDecider self.old.expecting self.old }
         ensures { OnOk result (StandsBehind header.now [] self.new) }
     {
-        let start = [0, header.variant.byte(), header.module.id()];
-        self.numbers.list(alloc, &start)
+        let start = Bytes::copy_of(alloc, &[0, header.variant.byte(), header.module.id()])?;
+        self.numbers.list(alloc, &Message::hashed(start))
     }
 
     // What all events come to, from the first one on.

@@ -5,7 +5,9 @@ ghost use Rattle.std.specs.Prelude.{◌≡◌};
 use mm_base::{Bytes, Memory};
 use mm_call::{BatchRun, run_batch};
 use mm_digest::{Digest, Variant, zero};
-use mm_history::{HistoryLists, HistoryMarks, Waymarks, anchored_message, joined, list_one};
+use mm_history::{
+    HistoryLists, HistoryMarks, Message, Waymarks, anchored_message, joined, list_one,
+};
 use mm_model::guard;
 use mm_module::{Batch, Module, Outputs};
 use mm_modules::AnyModule;
@@ -29,8 +31,8 @@ pub(crate) struct Chronicle {
     /// What the module said to the last batch.
     pub(crate) said: Outputs,
     pub(crate) waymarks: Waymarks,
-    pub(crate) extending: Vec<Bytes>,
-    pub(crate) closing: Vec<Bytes>,
+    pub(crate) extending: Vec<Message>,
+    pub(crate) closing: Vec<Message>,
 }
 
 impl Model for Chronicle {
@@ -115,7 +117,7 @@ impl Chronicle {
 
     /// Moves the messages behind these: those that extend the register, and then those that close a
     /// segment.
-    pub(crate) fn hand_messages(&mut self, messages: &mut Vec<Bytes>) -> Result<(), Memory>
+    pub(crate) fn hand_messages(&mut self, messages: &mut Vec<Message>) -> Result<(), Memory>
         ensures history { self.new.history ≡ self.old.history }
         ensures variant { self.new.variant ≡ self.old.variant }
         ensures module { self.new.«module» ≡ self.old.«module» }

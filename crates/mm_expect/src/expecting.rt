@@ -20,7 +20,7 @@ use crate::replies::{EventReply, closing_said, quiet, said_of};
 use mm_base::{Bytes, Memory};
 use mm_call::AskResult;
 use mm_digest::Digest;
-use mm_history::list_place;
+use mm_history::{Message, list_place};
 use mm_model::{Refusal, is_long, normal};
 use mm_module::Batch;
 use mm_outcome::{CallPlan, offered, way, world_key};
@@ -36,7 +36,7 @@ pub struct ExpectedOutcome {
     /// The reply that is expected.
     pub reply: Reply,
     /// The messages of the event, in the order of their numbers; one may have come before.
-    pub messages: Vec<Bytes>,
+    pub messages: Vec<Message>,
 }
 
 /// A schedule followed by lists, which contracts see as the header, the history and the issued
@@ -70,7 +70,7 @@ fn list_asked(
     chronicle: &Chronicle,
     offer: &Result<Body<'_>, Refusal>,
     batch: Batch<'_>,
-    messages: &mut Vec<Bytes>,
+    messages: &mut Vec<Message>,
 ) -> Result<(), Memory>
     ensures { OnOk result (messages.new.items
         ≡ messages.old.items ++ right_messages (chronicle_instance chronicle.now)
@@ -107,7 +107,7 @@ fn call_and_list(
     course: &CallPlan<'_>,
     bytes: &[u8],
     batch: Batch<'_>,
-    messages: &mut Vec<Bytes>,
+    messages: &mut Vec<Message>,
 ) -> Result<EventReply, Memory>
     requires key { key.old ≡ world_key }
     requires short { is_long (batch_of batch) ≡ false }
@@ -145,7 +145,7 @@ fn follow_ask(
     offer: &Offer,
     course: &CallPlan<'_>,
     batch: Batch<'_>,
-    messages: &mut Vec<Bytes>,
+    messages: &mut Vec<Message>,
 ) -> Result<EventReply, Memory>
     requires key { key.old ≡ world_key }
     ensures key { key.new ≡ key.old }
@@ -177,7 +177,7 @@ fn follow_checkpoint(
     chronicle: &mut Chronicle,
     issued: &[Bytes],
     course: &CallPlan<'_>,
-    messages: &mut Vec<Bytes>,
+    messages: &mut Vec<Message>,
 ) -> Result<EventReply, Memory>
     ensures { IfOk result (ChronicleGoesByEvent
         (listed_chronicle chronicle.old messages.old.items)
@@ -196,7 +196,7 @@ fn follow_checkpoint(
 fn follow_power(
     chronicle: &mut Chronicle,
     issued: &[Bytes],
-    messages: &mut Vec<Bytes>,
+    messages: &mut Vec<Message>,
 ) -> EventReply
     ensures { ChronicleGoesByEvent (listed_chronicle chronicle.old messages.old.items)
         (listed_chronicle chronicle.new messages.new.items) issued.now Power result }
@@ -210,7 +210,7 @@ fn follow_extend(
     chronicle: &mut Chronicle,
     issued: &[Bytes],
     value: &Digest,
-    messages: &mut Vec<Bytes>,
+    messages: &mut Vec<Message>,
 ) -> Result<EventReply, Memory>
     ensures { IfOk result (ChronicleGoesByEvent
         (listed_chronicle chronicle.old messages.old.items)
@@ -229,7 +229,7 @@ fn follow(
     key: &mut SealingKey,
     issued: &[Bytes],
     event: &Event,
-    messages: &mut Vec<Bytes>,
+    messages: &mut Vec<Message>,
 ) -> Result<EventReply, Memory>
     requires { key.old ≡ world_key }
     ensures key { key.new ≡ key.old }

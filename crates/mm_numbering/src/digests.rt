@@ -103,32 +103,32 @@ impl DigestIndex {
     }
 
     /// One more message, the first of its digest.
-    pub fn add_first(&mut self, alloc: Global, digest: Digest, text: &[u8]) -> Result<(), Memory>
+    pub fn add_first(&mut self, alloc: Global, digest: &Digest, text: &[u8]) -> Result<(), Memory>
         requires { self.old.count < 2 ^ 32 - 1 }
         ensures rises { self.new.count ≤ self.old.count + 1 }
-        ensures adds { OnOk result (AddsDigest digest.bytes self.old self.new) }
+        ensures adds { OnOk result (AddsDigest digest.now.bytes self.old self.new) }
         ensures shared { self.new.shared ≡ self.old.shared }
-        ensures first { OnOk result (TakesFirst text.now digest.bytes self.old self.new) }
+        ensures first { OnOk result (TakesFirst text.now digest.now.bytes self.old self.new) }
     {
         let first = FirstMessage {
             number: self.count + 1,
             text: Vec::from_slice(alloc, text)?,
         };
         put(&mut self.firsts, digest.bytes, first)?;
-        self.count_one(&digest);
+        self.count_one(digest);
         Ok(())
     }
 
     /// One more message, of a digest whose first message has this number.
-    pub fn add_shared(&mut self, digest: Digest, first: u32)
+    pub fn add_shared(&mut self, digest: &Digest, first: u32)
         requires { self.old.count < 2 ^ 32 - 1 }
-        ensures adds { AddsDigest digest.bytes self.old self.new }
+        ensures adds { AddsDigest digest.now.bytes self.old self.new }
         ensures shared { pair_of self.new.shared
             ≡ lower_pair (pair_of self.old.shared) first (self.old.count + 1) }
         ensures same { self.new.firsts ≡ self.old.firsts }
     {
         self.shared = lower(self.shared, first, self.count + 1);
-        self.count_one(&digest);
+        self.count_one(digest);
     }
 
     // Counts one more message, with this digest.

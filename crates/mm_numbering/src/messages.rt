@@ -3,14 +3,12 @@
 ghost use Rattle.std.specs.Prelude.{◌≡◌, ◌+◌, ◌-◌, ◌<◌, ◌≤◌, ◌^◌, ◌||◌, not, ℕ, List, [], length, IfOk, OnOk};
 ghost use Rattle.std.specs.List.{fold};
 ghost use Rattle.std.specs.Str.{bytes_eq};
-ghost use Rattle.sha2.specs.Sha256.{sha256};
 ghost use Rattle.mm_numbering.specs.Listing.{messages_with};
 ghost use Rattle.mm_numbering.specs.Lists.{has_message, HasOtherFirst, ListsMessages};
 
 use crate::digests::DigestIndex;
-use mm_base::{Bytes, Memory};
-use mm_digest::Digest;
-use sha2::{Digest as _, Sha256};
+use mm_base::Memory;
+use mm_history::Message;
 use std::alloc::Global;
 use std::collections::BTreeSet;
 
@@ -20,14 +18,6 @@ use std::collections::BTreeSet;
 pub struct Numbers {
     others: BTreeSet<Vec<u8>>,
     pub digests: DigestIndex,
-}
-
-fn digest_of(message: &[u8]) -> Digest
-    ensures { result.bytes ≡ sha256 message.now }
-{
-    Digest {
-        bytes: Sha256::digest(message),
-    }
 }
 
 /// Keeps a message, and answers whether it is a new one.
@@ -55,52 +45,46 @@ impl Numbers {
     }
 
     /// Lists a message, if it hasn't come before.
-    pub fn list(&mut self, alloc: Global, message: &[u8]) -> Result<(), Memory>
+    pub fn list(&mut self, alloc: Global, message: &Message) -> Result<(), Memory>
         requires { self.old.digests.count < 2 ^ 32 - 1 }
         ensures lists { (seen : List (List ℕ)) → ListsMessages seen self.old
             → OnOk result (ListsMessages (messages_with seen message.now) self.new) }
         ensures rises { self.new.digests.count ≤ self.old.digests.count + 1 }
     {
-        let digest = digest_of(message);
-        match self.digests.first(&digest) {
-            None => self.digests.add_first(alloc, digest, message),
-            Some(first) if first.text.as_slice() == message => Ok(()),
+        let text = message.as_slice();
+        let digest = message.digest();
+        match self.digests.first(digest) {
+            None => self.digests.add_first(alloc, digest, text),
+            Some(first) if first.text.as_slice() == text => Ok(()),
             Some(first) => {
                 let number = first.number;
-                self.list_other(alloc, digest, number, message)
+                self.list_other(alloc, number, message)
             }
         }
     }
 
     // Lists a message whose digest is another message's, of this number, if it hasn't come before.
-    fn list_other(
-        &mut self,
-        alloc: Global,
-        digest: Digest,
-        first: u32,
-        message: &[u8],
-    ) -> Result<(), Memory>
+    fn list_other(&mut self, alloc: Global, first: u32, message: &Message) -> Result<(), Memory>
         requires count { self.old.digests.count < 2 ^ 32 - 1 }
-        requires digest { digest.bytes ≡ sha256 message.now }
         requires other { HasOtherFirst self.old.digests first message.now }
         ensures lists { (seen : List (List ℕ)) → ListsMessages seen self.old
             → OnOk result (ListsMessages (messages_with seen message.now) self.new) }
         ensures rises { self.new.digests.count ≤ self.old.digests.count + 1 }
     {
-        if keep(&mut self.others, alloc, message)? {
-            self.digests.add_shared(digest, first);
+        if keep(&mut self.others, alloc, message.as_slice())? {
+            self.digests.add_shared(message.digest(), first);
         }
         Ok(())
     }
 
     /// Lists these messages, one after another.
-    pub fn list_all(&mut self, alloc: Global, messages: &[Bytes]) -> Result<(), Memory>
+    pub fn list_all(&mut self, alloc: Global, messages: &[Message]) -> Result<(), Memory>
         requires { self.old.digests.count + length messages.now < 2 ^ 32 - 1 }
         ensures { (seen : List (List ℕ)) → ListsMessages seen self.old
             → OnOk result (ListsMessages (fold messages_with seen messages.now) self.new) }
     {
         'messages: for message in messages {
-            self.list(alloc, message.as_slice())?;
+            self.list(alloc, message)?;
         }
         Ok(())
     }
