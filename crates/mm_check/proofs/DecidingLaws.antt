@@ -93,7 +93,7 @@ pub stands_next : (header : Header) (es : List Event) (e : Event) (old new : Dec
     → IsHeard (world_of header) (outcome_by_lists (world_of header) es) e heard → IsAfter header (es ++ e ∷ []) new.expecting
     → length new.expecting.issued ≤ length old.expecting.issued + 1
     → ListsMessages (fold messages_with (numbered_messages (world_of header) es) heard.messages.items) new.numbers
-    → new.lines.items ≡ old.lines.items ++ lines_of_reply heard.reply
+    → new.lines ≡ old.lines ++ lines_of_reply heard.reply
     → LooksAtEvent old.expecting old.forged e (length es + 1) new.forged → StandsBehind header (es ++ e ∷ []) new
 stands_next header es e old new heard h hears after few lists lines forged =
     let i = world_of header in
@@ -152,7 +152,7 @@ start_by Opt meaning = refl
 
 pub stands_first : (header : Header) (it : Decider) (message : List ℕ) → IsAfter header [] it.expecting
     → ListsMessages (messages_with [] message) it.numbers → message ≡ 0 ∷ variant_byte header.variant ∷ (meaning_of header.«module»).id ∷ []
-    → it.lines.items ≡ [] → it.forged ≡ None → StandsBehind header [] it
+    → it.lines ≡ [] → it.forged ≡ None → StandsBehind header [] it
 stands_first header it message after lists is lines forged =
     let i = world_of header in
     record {
@@ -168,7 +168,7 @@ stands_first header it message after lists is lines forged =
 
 pub lines_end : (header : Header) (es : List Event) (it : Decider) (committed issued : ℕ) (lines : List (List ℕ))
     → StandsBehind header es it → committed ≡ total_of it.expecting.history.batches → issued ≡ length it.expecting.issued
-    → lines ≡ it.lines.items ++ end_line committed issued ∷ [] → lines ≡ expected_lines (world_of header) es
+    → lines ≡ it.lines ++ end_line committed issued ∷ [] → lines ≡ expected_lines (world_of header) es
 lines_end header es it committed issued lines h n k is =
     is ∙ (λ j. h.lines j ++ end_line ((n ∙ ap (λ (y : History). total_of y.batches) h.after.history_is) j)
     ((k ∙ ap length h.after.issued_is) j) ∷ [])

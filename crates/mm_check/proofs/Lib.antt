@@ -6,4 +6,5 @@ mod EvidenceLaws
 mod ComparingLaws
 mod CheckingLaws
 mod RunLaws
+mod LineLaws
 mod FixedLaws

@@ -57,10 +57,10 @@ is_run_next header {r} events {longer} {told} {more} line event h room said is g
     (subst (λ (es : List Event). RunsBehind header (running_replay_after r line e) es more) (sym all) behind)
 
 -- few lines are expected
-pub lines_short : (header : Header) (events : List CodeEvent) {lines slice : List (List ℕ)} → length events ≤ most_events
-    → lines ≡ expected_lines (world_of header) (events_of events) → slice ≡ lines → length slice < 4294967295
-lines_short header events few is at =
-    omega (arith, few, ap length is, ap length at, length-map events event_of, expected_few (world_of header) (events_of events))
+pub lines_short : (header : Header) (events : List CodeEvent) {lines : List (List ℕ)} → length events ≤ most_events
+    → lines ≡ expected_lines (world_of header) (events_of events) → length lines < 4294967295
+lines_short header events few is =
+    omega (arith, few, ap length is, length-map events event_of, expected_few (world_of header) (events_of events))
 
 -- the lines of the run itself, with its last line
 pub run_verdicts : {E : Type 0} (r : Result Verdicts E) (header : Header) (running : RunningReplay) (events slice : List CodeEvent)

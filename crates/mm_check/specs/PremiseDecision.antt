@@ -31,7 +31,7 @@ LooksAtEvent it first event number forged =
 pub record IsNewDecider (expecting : ExpectedState) (it : Decider) : Type 0 where
   pub over : it.expecting ≡ expecting
   pub lists : ListsMessages [] it.numbers
-  pub lines : it.lines.items ≡ []
+  pub lines : it.lines ≡ []
   pub forged : it.forged ≡ None
 
 -- It stands behind these events.
@@ -39,7 +39,7 @@ pub record StandsBehind (header : Header) (events : List Event) (it : Decider) :
   pub after : IsAfter header events it.expecting
   pub few : length it.expecting.issued ≤ length events + 1
   pub lists : ListsMessages (numbered_messages (world_of header) events) it.numbers
-  pub lines : it.lines.items ≡ lines_of_all (outcome_by_lists (world_of header) events).replies
+  pub lines : it.lines ≡ lines_of_all (outcome_by_lists (world_of header) events).replies
   pub forged : IsFirstForged (world_of header) events it.forged
 
 -- One event more, of which this was heard: its messages are listed, and the lines of its reply.
@@ -60,4 +60,4 @@ premise_by None None None None = Held
 -- what these events come to
 pub record DecidesRun (header : Header) (events : List Event) (it : Decision) : Type 0 where
   pub premise : DecidesPremise (world_of header) events it.premise
-  pub lines : it.lines.items ≡ expected_lines (world_of header) events
+  pub lines : it.lines ≡ expected_lines (world_of header) events

@@ -5,6 +5,7 @@ ghost use Rattle.mm_check.specs.CheckStage.{ComparedRun, InReplies, answer_to_re
 ghost use Rattle.mm_check.specs.Verdicts.{AreVerdictsOn, agreement_of};
 ghost use Rattle.mm_check.specs.Steps.{LineComesTo};
 
+use crate::lines::Lines;
 use crate::reading::ScheduleReader;
 use crate::verdicts::{Agreement, Premise, Verdicts};
 use mm_base::{Bytes, Memory};
@@ -24,7 +25,7 @@ pub(crate) struct Comparison {
     events: Vec<Event>,
     premise: Premise,
     /// The lines that are expected, each with its LF.
-    expected: Vec<Bytes>,
+    expected: Lines,
     /// How many recorded lines were compared.
     count: u32,
     /// The number of the first that differs.
@@ -46,11 +47,11 @@ impl Model for Comparison {
     } };
 
     ghost invariant = { λ it. IsComparing it.header (events_of it.events.items) it.premise
-        it.expected.items it.count };
+        it.expected it.count };
 }
 
 /// Whether a recorded line, which stands without its LF, is this one.
-fn is_same(alloc: Global, line: &[u8], expected: Option<&Bytes>) -> Result<bool, Memory>
+fn is_same(alloc: Global, line: &[u8], expected: Option<&[u8]>) -> Result<bool, Memory>
     ensures { IfOk result (λ same. same ≡ is_line line.now (option_copied expected.entry)) }
 {
     match expected {
@@ -58,7 +59,7 @@ fn is_same(alloc: Global, line: &[u8], expected: Option<&Bytes>) -> Result<bool,
         Some(expected) => {
             let mut whole = Bytes::copy_of(alloc, line)?;
             whole.push(b'\n')?;
-            Ok(whole.as_slice() == expected.as_slice())
+            Ok(whole.as_slice() == expected)
         }
     }
 }

@@ -9,7 +9,7 @@ ghost use Rattle.mm_schedule.specs.Replies.{IsPrintable};
 ghost use Rattle.mm_expect.specs.ExpectedState.{IsAfter};
 ghost use Rattle.mm_check.specs.PremiseDecision.{LooksAtEvent, IsNewDecider, StandsBehind, TakesInEvent, DecidesRun, premise_by};
 
-use crate::lines::{put_last, put_reply};
+use crate::lines::Lines;
 use crate::verdicts::Premise;
 use mm_base::{Bytes, Memory};
 use mm_expect::{Expectation, ExpectedOutcome};
@@ -28,7 +28,7 @@ pub(crate) struct Decider {
     /// The first event whose offer is right and names no position.
     forged: Option<u32>,
     /// The lines of the replies that are expected, each with its LF.
-    lines: Vec<Bytes>,
+    lines: Lines,
 }
 
 /// What a list of events comes to.
@@ -36,7 +36,7 @@ pub(crate) struct Decider {
 pub(crate) struct Decision {
     pub premise: Premise,
     /// The lines that are expected, each with its LF, the last line included.
-    pub lines: Vec<Bytes>,
+    pub lines: Lines,
 }
 
 impl Decider {
@@ -48,7 +48,7 @@ impl Decider {
             expecting,
             numbers: Numbers::new(alloc),
             forged: None,
-            lines: Vec::new(alloc),
+            lines: Lines::new(alloc),
         }
     }
 
@@ -147,16 +147,12 @@ impl Decider {
         requires stands { StandsBehind header.now (events_of events.now) self.old }
         ensures { IfOk result (DecidesRun header.now (events_of events.now)) }
     {
-        put_last(
-            alloc,
-            &mut self.lines,
-            self.expecting.committed(),
-            self.expecting.issued(),
-        )?;
+        self.lines
+            .put_last(alloc, self.expecting.committed(), self.expecting.issued())?;
         let secured = first_secured(alloc, header.variant, events)?;
         Ok(Decision {
             premise: self.premise(secured),
-            lines: mem::replace(&mut self.lines, Vec::new(alloc)),
+            lines: mem::replace(&mut self.lines, Lines::new(alloc)),
         })
     }
 }
@@ -165,16 +161,16 @@ impl Decider {
 fn take_in(
     alloc: Global,
     numbers: &mut Numbers,
-    lines: &mut Vec<Bytes>,
+    lines: &mut Lines,
     heard: &ExpectedOutcome,
 ) -> Result<(), Memory>
     requires few { numbers.old.digests.count + length heard.now.messages.items < 2 ^ 32 - 1 }
     requires printable { IsPrintable heard.now.reply }
-    ensures { OnOk result (TakesInEvent heard.now numbers.old numbers.new lines.old.items
-        lines.new.items) }
+    ensures { OnOk result (TakesInEvent heard.now numbers.old numbers.new lines.old
+        lines.new) }
 {
     numbers.list_all(alloc, heard.messages.as_slice())?;
-    put_reply(alloc, lines, &heard.reply)
+    lines.put_reply(alloc, &heard.reply)
 }
 
 /// What these events come to: what is told of the premises, and the lines that are expected.

@@ -15,9 +15,9 @@ ghost use Rattle.mm_check.specs.PremiseDecision.{DecidesRun};
 
 use crate::deciding::{Decision, decide};
 use crate::difference::difference;
-use crate::lines::{put_last, put_reply};
+use crate::lines::Lines;
 use crate::verdicts::Verdicts;
-use mm_base::{Bytes, Memory};
+use mm_base::Memory;
 use mm_play::{LineRefusal, ReplyFault};
 use mm_replay::{ReplayProgress, Report};
 use mm_schedule::{Event, EventFault, Header, Reply, read_event};
@@ -30,7 +30,7 @@ pub(crate) struct ScheduleReader {
     header: Header,
     progress: ReplayProgress,
     events: Vec<Event>,
-    told: Vec<Bytes>,
+    told: Lines,
 }
 
 impl Model for ScheduleReader {
@@ -45,12 +45,12 @@ impl Model for ScheduleReader {
       header = it.header;
       running = running_replay it.progress;
       events = events_of it.events.items;
-      told = it.told.items;
+      told = it.told;
     } };
 
     ghost invariant = { λ it. RunsBehind it.header (running_replay it.progress)
         (events_of it.events.items)
-        it.told.items };
+        it.told };
 }
 
 /// The event of a line.
@@ -68,16 +68,16 @@ fn event_in(alloc: Global, line: &[u8]) -> Result<Event, ReplyFault>
 fn remember(
     alloc: Global,
     events: &mut Vec<Event>,
-    told: &mut Vec<Bytes>,
+    told: &mut Lines,
     event: Event,
     reply: &Reply,
 ) -> Result<(), Memory>
     requires { IsPrintable reply.now }
     ensures events { OnOk result (events.new.items ≡ events.old.items ++ event ∷ []) }
-    ensures told { OnOk result (told.new.items ≡ told.old.items ++ lines_of_reply reply.now) }
+    ensures told { OnOk result (told.new ≡ told.old ++ lines_of_reply reply.now) }
 {
     events.push(event)?;
-    put_reply(alloc, told, reply)
+    told.put_reply(alloc, reply)
 }
 
 // Runs the event of a line, and keeps it with the lines of its reply.
@@ -85,21 +85,21 @@ fn follow_line(
     alloc: Global,
     progress: &mut ReplayProgress,
     events: &mut Vec<Event>,
-    told: &mut Vec<Bytes>,
+    told: &mut Lines,
     line: &[u8],
 ) -> Result<(), ReplyFault>
     requires { length line.now ≤ longest_line }
     ensures comes { (header : Header) → LineComesTo
         (λ _. InEvents (recorded_run header (running_replay progress.new) events.new.items
-        told.new.items))
+        told.new))
         (answer_to_event
-        (recorded_run header (running_replay progress.old) events.old.items told.old.items)
+        (recorded_run header (running_replay progress.old) events.old.items told.old)
         line.now (event_at line.now)) result }
     ensures runs { (header : Header)
         → RunsBehind header (running_replay progress.old) (events_of events.old.items)
-        told.old.items
+        told.old
         → OnOk result (RunsBehind header (running_replay progress.new)
-        (events_of events.new.items) told.new.items) }
+        (events_of events.new.items) told.new) }
 {
     let event = event_in(alloc, line)?;
     let reply = progress.reply_to_event(line, &event)?;
@@ -119,7 +119,7 @@ impl ScheduleReader {
             header: *header,
             progress,
             events: Vec::new(alloc),
-            told: Vec::new(alloc),
+            told: Lines::new(alloc),
         })
     }
 
@@ -177,18 +177,18 @@ fn verdicts_on(
     alloc: Global,
     header: &Header,
     events: &[Event],
-    told: &mut Vec<Bytes>,
+    told: &mut Lines,
     last: Report,
 ) -> Result<Verdicts, Memory>
     requires { length events.now ≤ most_events }
     ensures { IfOk result
         (AreVerdicts header.now (events_of events.now)
-        (told.old.items ++ end_line last.committed last.issued ∷ [])) }
+        (told.old ++ end_line last.committed last.issued ∷ [])) }
 {
-    put_last(alloc, told, last.committed, last.issued)?;
+    told.put_last(alloc, last.committed, last.issued)?;
     let decided = decide(alloc, header, events)?;
     Ok(Verdicts {
         premise: decided.premise,
-        agreement: difference(told.as_slice(), decided.lines.as_slice()),
+        agreement: difference(told, &decided.lines),
     })
 }

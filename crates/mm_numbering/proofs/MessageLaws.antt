@@ -37,14 +37,14 @@ no_first (Some first) e = absurd (cc)
 abbrev listed_by_first : Numbers → List ℕ → Option FirstMessage → Bool
 listed_by_first it x first = option_map_or (λ (f : FirstMessage). bytes_eq x f.text.items || has_message it.others.keys x) first false
 
-listed_by_first-same : (a b : Numbers) (x : List ℕ) (first : Option FirstMessage) → has_message a.others.keys x ≡ has_message b.others.keys x
-    → listed_by_first a x first ≡ listed_by_first b x first
+listed_by_first-same : (a b : Numbers) (x : List ℕ) (first : Option FirstMessage)
+    → has_message a.others.keys x ≡ has_message b.others.keys x → listed_by_first a x first ≡ listed_by_first b x first
 listed_by_first-same a b x None e = refl
 listed_by_first-same a b x (Some f) e = ap (λ r. bytes_eq x f.text.items || r) e
 
 -- a message is the first of its digest
-module _ (seen : List (List ℕ)) (old new : Numbers) (m : List ℕ) (h : ListsMessages seen old) (none : number_at old.digests (sha256 m) ≡ None)
-    (adds : AddsDigest (sha256 m) old.digests new.digests) (takes : TakesFirst m (sha256 m) old.digests new.digests)
+module _ (seen : List (List ℕ)) (old new : Numbers) (m : List ℕ) (h : ListsMessages seen old)
+    (none : number_at old.digests (sha256 m) ≡ None) (adds : AddsDigest (sha256 m) old.digests new.digests) (takes : TakesFirst m (sha256 m) old.digests new.digests)
     (shared : new.digests.shared ≡ old.digests.shared) (same : new.others ≡ old.others) where
   first_goes : (x : List ℕ) (b : Bool) → bytes_eq (sha256 m) (sha256 x) ≡ b
       → first_at new.digests (sha256 x) ≡ cond b (Some takes.0) (first_at old.digests (sha256 x))
@@ -105,7 +105,8 @@ module _ (seen : List (List ℕ)) (old new : Numbers) (m : List ℕ) (number : �
   -- one whose digest is new is another one
   unlike_new : (x : List ℕ) (c : Bool) → first_at old.digests (sha256 x) ≡ None → bytes_eq x m ≡ c → c ≡ false
   unlike_new x true none same =
-      let clash : Some other.0 ≡ None = sym other.1 ∙ ap (λ y. first_at old.digests (sha256 y)) (sym ((bytes_eq-Decides x m).0 same)) ∙ none in
+      let same_first = ap (λ y. first_at old.digests (sha256 y)) (sym ((bytes_eq-Decides x m).0 same)) in
+      let clash : Some other.0 ≡ None = sym other.1 ∙ same_first ∙ none in
       absurd (cc)
   unlike_new x false none same = refl
 

@@ -1,4 +1,4 @@
-use Rattle.mm_check.proofs.Below.{◌∙◌, ap, sym, subst, arith, length-map, event_of, world_of, events_of, DecidesPremise, Premise}
+use Rattle.mm_check.proofs.Below.{◌∙◌, sym, subst, arith, length-map, event_of, world_of, events_of, DecidesPremise, Premise}
 use Rattle.mm_check.proofs.DecidingLaws.{decided, lines_end}
 use Rattle.mm_check.proofs.deciding.Decider.end.Goals as goal
 
@@ -13,7 +13,7 @@ returns c =
       premise = subst (λ (p : Premise). DecidesPremise (world_of header) es p) (sym c.premise.ensures)
           (decided header es c.args.self.now c.in_ok-secured.secured c.requires.stands c.in_ok-secured.ensures);
       lines =
-          ap (λ v. v.items) c.replace.ensures.value
-          ∙ lines_end header es c.args.self.now c.committed.result c.issued.result c.put_last.new.lines.items c.requires.stands
+          c.replace.ensures.value
+          ∙ lines_end header es c.args.self.now c.committed.result c.issued.result c.put_last.new.self c.requires.stands
           c.committed.ensures c.issued.ensures c.in_ok-put_last.ensures;
     }

@@ -21,5 +21,5 @@ returns c =
     let events : events_of c.self.inside.events.items ≡ c.args.self.events = search rules in
     rw (← header, ← events)
     (run_verdicts c.verdicts_on.result c.self.inside.header (running_replay c.self.inside.progress) c.self.inside.events.items
-    c.as_slice.result.now c.self.inside.told.items c.self.invariant c.as_slice.ensures.value c.report-report.ensures.committed
+    c.as_slice.result.now c.self.inside.told c.self.invariant c.as_slice.ensures.value c.report-report.ensures.committed
     c.report-report.ensures.issued c.verdicts_on.ensures)

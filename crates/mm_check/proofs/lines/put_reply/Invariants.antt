@@ -1,5 +1,0 @@
-use Rattle.mm_check.proofs.Below.{◌≡◌, ◌++◌, take, lines_of_reply}
-use Rattle.mm_check.proofs.lines.put_reply.Given as goal
-
-abbrev pub invariant-lines : goal.invariant-lines
-invariant-lines l = l.lines.items ≡ l.fn.lines.items ++ take l.index (lines_of_reply l.reply)
