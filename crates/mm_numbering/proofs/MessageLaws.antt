@@ -45,7 +45,8 @@ listed_by_first-same a b x (Some f) e = ap (λ r. bytes_eq x f.text.items || r) 
 -- a message is the first of its digest
 module _ (seen : List (List ℕ)) (old new : Numbers) (m : List ℕ) (h : ListsMessages seen old)
     (none : number_at old.digests (sha256 m) ≡ None) (adds : AddsDigest (sha256 m) old.digests new.digests)
-    (takes : TakesFirst m (sha256 m) old.digests new.digests) (shared : new.digests.shared ≡ old.digests.shared) (same : new.others ≡ old.others) where
+    (takes : TakesFirst m (sha256 m) old.digests new.digests)
+    (shared : new.digests.shared ≡ old.digests.shared) (same : new.others ≡ old.others) where
   first_goes : (x : List ℕ) (b : Bool) → bytes_eq (sha256 m) (sha256 x) ≡ b
       → first_at new.digests (sha256 x) ≡ cond b (Some takes.0) (first_at old.digests (sha256 x))
   first_goes x b e =
