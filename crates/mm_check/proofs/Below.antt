@@ -59,7 +59,7 @@ pub use Rattle.mm_check.specs.PremiseDecision.{IsFirstForged, premise_by, Stands
 pub use Rattle.mm_numbering.specs.Guards.{digest_items, events_of, HasAll, is_secured, secured_event_by}
 pub use Rattle.mm_numbering.specs.Listing.{pair_plus_one, first_number_of, number_of_first, is_zero, messages_with, lower_pair, message_digests}
 pub use Rattle.mm_numbering.specs.Listing.{shared_pair_in, shared_pair_with, zero_number_in}
-pub use Rattle.mm_numbering.specs.Lists.{CountsDigests, has_message, ListsMessages, pair_of}
+pub use Rattle.mm_numbering.specs.Lists.{CountsDigests, ListsMessages, pair_of}
 pub use Rattle.mm_check.specs.Numbering.{DecidesPremise, expected_lines, IsForgedAt, lines_of_all, numbered_messages}
 pub use Rattle.mm_check.specs.Numbering.{numbered_messages_from, secured_event_in, PremiseIsFixed}
 pub use Rattle.mm_check.specs.Verdicts.{agreement_of, AreVerdicts, AreVerdictsOn, StageConcludes, difference_from, end_difference}

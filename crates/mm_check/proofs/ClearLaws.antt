@@ -12,12 +12,15 @@ use Rattle.mm_check.proofs.Below.{shared_pair_with, shared_pair_in, is_zero, zer
 use Rattle.mm_check.proofs.Below.{is_secured, Variant, Basic, Opt, AreApart, secured_event_by}
 use Rattle.std.specs.Option.{is_some}
 use Rattle.std.specs.List.{All, IsDistinct}
-use Rattle.std.proofs.lemmas.Bool.{both_ways, false_from_ne_true}
+use Rattle.std.proofs.lemmas.Bool.{both_ways, false_from_ne_true, or_right}
 use Rattle.std.proofs.lemmas.List.Elements.{All-contains, All-from_recursion}
 use Rattle.std.proofs.lemmas.Map.Keys.{IsDistinct-head, IsDistinct-push, IsDistinct-tail}
 use Rattle.std.proofs.lemmas.Map.Views.{Contains-from_any}
 use Rattle.mm_check.proofs.Below.{any_in, any_some}
-use Rattle.mm_numbering.proofs.SetLaws.{or_swap}
+
+or_swap : (a b r : Bool) → (a || (b || r)) ≡ (b || (a || r))
+or_swap true b r = sym (or_right b true refl)
+or_swap false b r = refl
 
 none_in : (m : List ℕ) → Contains [] m → ⊥
 none_in m h = let few = h.1 in absurd (omega arith)

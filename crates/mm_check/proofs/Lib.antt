@@ -6,5 +6,4 @@ mod EvidenceLaws
 mod ComparingLaws
 mod CheckingLaws
 mod RunLaws
-mod LineLaws
 mod FixedLaws

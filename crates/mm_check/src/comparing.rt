@@ -5,11 +5,10 @@ ghost use Rattle.mm_check.specs.CheckStage.{ComparedRun, InReplies, answer_to_re
 ghost use Rattle.mm_check.specs.Verdicts.{AreVerdictsOn, agreement_of};
 ghost use Rattle.mm_check.specs.Steps.{LineComesTo};
 
-use crate::lines::Lines;
 use crate::reading::ScheduleReader;
 use crate::verdicts::{Agreement, Premise, Verdicts};
 use mm_base::{Bytes, Memory};
-use mm_numbering::first_then;
+use mm_numbering::{TextList, first_then};
 use mm_play::{LineRefusal, ReplyFault};
 use mm_schedule::{Event, Header};
 use std::alloc::Global;
@@ -25,7 +24,7 @@ pub(crate) struct Comparison {
     events: Vec<Event>,
     premise: Premise,
     /// The lines that are expected, each with its LF.
-    expected: Lines,
+    expected: TextList,
     /// How many recorded lines were compared.
     count: u32,
     /// The number of the first that differs.

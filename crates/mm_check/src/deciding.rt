@@ -9,13 +9,13 @@ ghost use Rattle.mm_schedule.specs.Replies.{IsPrintable};
 ghost use Rattle.mm_expect.specs.ExpectedState.{IsAfter};
 ghost use Rattle.mm_check.specs.PremiseDecision.{LooksAtEvent, IsNewDecider, StandsBehind, TakesInEvent, DecidesRun, premise_by};
 
-use crate::lines::Lines;
+use crate::lines::{put_last, put_reply};
 use crate::verdicts::Premise;
 use mm_base::{Bytes, Memory};
 use mm_expect::{Expectation, ExpectedOutcome};
 use mm_history::Message;
 use mm_module::Module;
-use mm_numbering::{Numbers, first_secured};
+use mm_numbering::{Numbers, TextList, first_secured};
 use mm_schedule::{Event, Header};
 use std::alloc::Global;
 use std::mem;
@@ -28,7 +28,7 @@ pub(crate) struct Decider {
     /// The first event whose offer is right and names no position.
     forged: Option<u32>,
     /// The lines of the replies that are expected, each with its LF.
-    lines: Lines,
+    lines: TextList,
 }
 
 /// What a list of events comes to.
@@ -36,7 +36,7 @@ pub(crate) struct Decider {
 pub(crate) struct Decision {
     pub premise: Premise,
     /// The lines that are expected, each with its LF, the last line included.
-    pub lines: Lines,
+    pub lines: TextList,
 }
 
 impl Decider {
@@ -48,7 +48,7 @@ impl Decider {
             expecting,
             numbers: Numbers::new(alloc),
             forged: None,
-            lines: Lines::new(alloc),
+            lines: TextList::new(alloc),
         }
     }
 
@@ -59,7 +59,7 @@ impl Decider {
         ensures { OnOk result (StandsBehind header.now [] self.new) }
     {
         let start = Bytes::copy_of(alloc, &[0, header.variant.byte(), header.module.id()])?;
-        self.numbers.list(alloc, &Message::hashed(start))
+        self.numbers.list(&Message::hashed(start))
     }
 
     // What all events come to, from the first one on.
@@ -147,12 +147,16 @@ impl Decider {
         requires stands { StandsBehind header.now (events_of events.now) self.old }
         ensures { IfOk result (DecidesRun header.now (events_of events.now)) }
     {
-        self.lines
-            .put_last(alloc, self.expecting.committed(), self.expecting.issued())?;
+        put_last(
+            alloc,
+            &mut self.lines,
+            self.expecting.committed(),
+            self.expecting.issued(),
+        )?;
         let secured = first_secured(alloc, header.variant, events)?;
         Ok(Decision {
             premise: self.premise(secured),
-            lines: mem::replace(&mut self.lines, Lines::new(alloc)),
+            lines: mem::replace(&mut self.lines, TextList::new(alloc)),
         })
     }
 }
@@ -161,7 +165,7 @@ impl Decider {
 fn take_in(
     alloc: Global,
     numbers: &mut Numbers,
-    lines: &mut Lines,
+    lines: &mut TextList,
     heard: &ExpectedOutcome,
 ) -> Result<(), Memory>
     requires few { numbers.old.digests.count + length heard.now.messages.items < 2 ^ 32 - 1 }
@@ -169,8 +173,8 @@ fn take_in(
     ensures { OnOk result (TakesInEvent heard.now numbers.old numbers.new lines.old
         lines.new) }
 {
-    numbers.list_all(alloc, heard.messages.as_slice())?;
-    lines.put_reply(alloc, &heard.reply)
+    numbers.list_all(heard.messages.as_slice())?;
+    put_reply(alloc, lines, &heard.reply)
 }
 
 /// What these events come to: what is told of the premises, and the lines that are expected.

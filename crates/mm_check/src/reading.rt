@@ -15,9 +15,10 @@ ghost use Rattle.mm_check.specs.PremiseDecision.{DecidesRun};
 
 use crate::deciding::{Decision, decide};
 use crate::difference::difference;
-use crate::lines::Lines;
+use crate::lines::{put_last, put_reply};
 use crate::verdicts::Verdicts;
 use mm_base::Memory;
+use mm_numbering::TextList;
 use mm_play::{LineRefusal, ReplyFault};
 use mm_replay::{ReplayProgress, Report};
 use mm_schedule::{Event, EventFault, Header, Reply, read_event};
@@ -30,7 +31,7 @@ pub(crate) struct ScheduleReader {
     header: Header,
     progress: ReplayProgress,
     events: Vec<Event>,
-    told: Lines,
+    told: TextList,
 }
 
 impl Model for ScheduleReader {
@@ -68,7 +69,7 @@ fn event_in(alloc: Global, line: &[u8]) -> Result<Event, ReplyFault>
 fn remember(
     alloc: Global,
     events: &mut Vec<Event>,
-    told: &mut Lines,
+    told: &mut TextList,
     event: Event,
     reply: &Reply,
 ) -> Result<(), Memory>
@@ -77,7 +78,7 @@ fn remember(
     ensures told { OnOk result (told.new ≡ told.old ++ lines_of_reply reply.now) }
 {
     events.push(event)?;
-    told.put_reply(alloc, reply)
+    put_reply(alloc, told, reply)
 }
 
 // Runs the event of a line, and keeps it with the lines of its reply.
@@ -85,7 +86,7 @@ fn follow_line(
     alloc: Global,
     progress: &mut ReplayProgress,
     events: &mut Vec<Event>,
-    told: &mut Lines,
+    told: &mut TextList,
     line: &[u8],
 ) -> Result<(), ReplyFault>
     requires { length line.now ≤ longest_line }
@@ -119,7 +120,7 @@ impl ScheduleReader {
             header: *header,
             progress,
             events: Vec::new(alloc),
-            told: Lines::new(alloc),
+            told: TextList::new(alloc),
         })
     }
 
@@ -177,7 +178,7 @@ fn verdicts_on(
     alloc: Global,
     header: &Header,
     events: &[Event],
-    told: &mut Lines,
+    told: &mut TextList,
     last: Report,
 ) -> Result<Verdicts, Memory>
     requires { length events.now ≤ most_events }
@@ -185,7 +186,7 @@ fn verdicts_on(
         (AreVerdicts header.now (events_of events.now)
         (told.old ++ end_line last.committed last.issued ∷ [])) }
 {
-    told.put_last(alloc, last.committed, last.issued)?;
+    put_last(alloc, told, last.committed, last.issued)?;
     let decided = decide(alloc, header, events)?;
     Ok(Verdicts {
         premise: decided.premise,

@@ -1,8 +1,8 @@
 -- The words and laws that the proofs of this crate take from specs/ and from the crates below.
 pub use Rattle.std.specs.BTreeSet.{BTreeSet, contains, insert_key}
 pub use Rattle.std.specs.Cmp.Lexicographic.{slice_cmp}
-pub use Rattle.std.specs.List.{fold, list_any}
-pub use Rattle.std.specs.Option.{option_copied, option_map, option_map_or}
+pub use Rattle.std.specs.List.{fold, list_any, slice_get}
+pub use Rattle.std.specs.Option.{option_copied, option_map}
 pub use Rattle.std.specs.Ordering.{is_eq, match_ordering, nat_cmp}
 pub use Rattle.std.specs.Prelude.{◌||◌, not, Vec}
 pub use Rattle.std.specs.Str.{bytes_eq}
@@ -28,7 +28,5 @@ pub use Rattle.mm_outcome.specs.Premises.{asked_batches}
 pub use Rattle.mm_numbering.specs.Guards.{digest_items, events_of, HasAll}
 pub use Rattle.mm_numbering.specs.Listing.{pair_plus_one, first_number_of, number_of_first, is_zero, message_digests, messages_with, lower_pair}
 pub use Rattle.mm_numbering.specs.Listing.{shared_pair_in, shared_pair_with, zero_number_in}
-pub use Rattle.mm_numbering.specs.Lists.{AddsDigest, CountsDigests, first_at, has_message, HasOtherFirst, is_listed, ListsMessages}
-pub use Rattle.mm_numbering.specs.Lists.{number_at, number_in, pair_of, TakesFirst}
-pub use Rattle.mm_numbering.specs.declared.digests.FirstMessage.{FirstMessage}
+pub use Rattle.mm_numbering.specs.Lists.{AddsDigest, CountsDigests, ListsMessages, number_at, pair_of}
 pub use Rattle.mm_numbering.specs.Guards.{has_foreign_value, is_secured}

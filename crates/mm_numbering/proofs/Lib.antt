@@ -1,5 +1,5 @@
 mod Below
 mod ListingLaws
 mod MessageLaws
-pub mod SetLaws
+mod TextLaws
 pub mod GuardLaws

@@ -3,7 +3,7 @@ use Rattle.mm_numbering.proofs.Below.{◌≡◌, ◌∙◌, ℕ, ◌+◌, ◌≤
 use Rattle.mm_numbering.proofs.Below.{sym, ap, arith, length-append, option_map, bytes_eq, nat_tests, nat_list_eq_equiv, bytes_eq-Decides}
 use Rattle.mm_numbering.proofs.Below.{slice_cmp, nat_cmp, is_eq, is_eq-slice_cmp, number_of_first, pair_plus_one, shared_pair_with}
 use Rattle.mm_numbering.proofs.Below.{shared_pair_in, is_zero, zero_number_in, lower_pair, first_number_of, pair_of, CountsDigests}
-use Rattle.mm_numbering.proofs.Below.{AddsDigest, TakesFirst, FirstMessage, first_at, number_in, number_at}
+use Rattle.mm_numbering.proofs.Below.{AddsDigest, number_at}
 use Rattle.std.specs.BTreeMap as tree
 use Rattle.mm_numbering.specs.declared.digests.DigestIndex.{DigestIndex}
 
@@ -124,27 +124,20 @@ pub counts-known : (ds : List (List ℕ)) (old new : DigestIndex) (x : List ℕ)
     → number_at old x ≡ Some n → new.firsts ≡ old.firsts → pair_of new.shared ≡ lower_pair (pair_of old.shared) n (old.count + 1)
     → CountsDigests (ds ++ x ∷ []) new
 counts-known ds old new x n h a found same shared = record {
-  firsts = λ (d : List ℕ). ap (λ m. number_in (tree.get (slice_cmp nat_cmp) m d)) same
-      ∙ finds-known (number_at old) ds x n h.firsts found d;
+  firsts = λ (d : List ℕ). ap (λ m. tree.get (slice_cmp nat_cmp) m d) same ∙ finds-known (number_at old) ds x n h.firsts found d;
   count = a.count ∙ one_longer ds x old.count h.count;
   shared = shared ∙ (λ j. lower_pair (h.shared j) n (h.count j + 1))
       ∙ sym (shared_by (number_at old) ds x (Some n) h.firsts found);
   zero = zero_goes ds old new x h a;
 }
 
--- the number of the first message of a digest, once one more is the first of its own
-number_chosen : (b : Bool) (first : FirstMessage) (other : Option FirstMessage) (n : ℕ) → first.number ≡ n
-    → number_in (cond b (Some first) other) ≡ cond b (Some n) (number_in other)
-number_chosen true first other n e = ap Some e
-number_chosen false first other n e = refl
-
-pub counts-new : (text : List ℕ) (ds : List (List ℕ)) (old new : DigestIndex) (x : List ℕ) → CountsDigests ds old → AddsDigest x old new
-    → number_at old x ≡ None → TakesFirst text x old new → new.shared ≡ old.shared → CountsDigests (ds ++ x ∷ []) new
-counts-new text ds old new x h a none takes same = record {
+pub counts-new : (ds : List (List ℕ)) (old new : DigestIndex) (x : List ℕ) → CountsDigests ds old → AddsDigest x old new
+    → number_at old x ≡ None
+    → ((d : List ℕ) → number_at new d ≡ cond (is_eq (slice_cmp nat_cmp x d)) (Some (old.count + 1)) (number_at old d))
+    → new.shared ≡ old.shared → CountsDigests (ds ++ x ∷ []) new
+counts-new ds old new x h a none goes same = record {
   firsts = finds-new (number_at old) (number_at new) ds x h.firsts none (λ (d : List ℕ).
-      ap number_in (takes.3 d)
-      ∙ number_chosen (is_eq (slice_cmp nat_cmp x d)) takes.0 (first_at old d) (old.count + 1) takes.1
-      ∙ ap (λ b. cond b (Some (old.count + 1)) (number_at old d)) (is_eq-slice_cmp x d ∙ nat_list_eq_equiv.symm x d)
+      goes d ∙ ap (λ b. cond b (Some (old.count + 1)) (number_at old d)) (is_eq-slice_cmp x d ∙ nat_list_eq_equiv.symm x d)
       ∙ ap (λ (n : ℕ). cond (bytes_eq d x) (Some (n + 1)) (number_at old d)) h.count);
   count = a.count ∙ one_longer ds x old.count h.count;
   shared = ap pair_of same ∙ h.shared ∙ sym (shared_by (number_at old) ds x None h.firsts none);

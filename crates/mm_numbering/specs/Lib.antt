@@ -1,4 +1,5 @@
 pub mod Below
 pub mod Listing
+pub mod TextList
 pub mod Lists
 pub mod Guards

@@ -1,11 +1,11 @@
 //! The digests of messages by their numbers.
 
-ghost use Rattle.std.specs.Prelude.{◌≡◌, ◌+◌, ◌-◌, ◌<◌, ◌≤◌, ◌^◌, [], ℕ, List, Option, Some, option_copied, OnOk, if◌then◌else◌};
+ghost use Rattle.std.specs.Prelude.{◌≡◌, ◌+◌, ◌-◌, ◌<◌, ◌≤◌, ◌^◌, [], ℕ, List, Option, Some, OnOk, if◌then◌else◌};
 ghost use Rattle.std.specs.BTreeMap.{get};
 ghost use Rattle.std.specs.Cmp.Lexicographic.{slice_cmp};
 ghost use Rattle.std.specs.Ordering.{nat_cmp, is_eq};
 ghost use Rattle.mm_numbering.specs.Listing.{first_number_of, is_zero, lower_pair};
-ghost use Rattle.mm_numbering.specs.Lists.{pair_of, first_at, AddsDigest, TakesFirst, CountsDigests};
+ghost use Rattle.mm_numbering.specs.Lists.{pair_of, number_at, AddsDigest, CountsDigests};
 
 use mm_base::Memory;
 use mm_digest::{Digest, zero};
@@ -29,18 +29,11 @@ pub struct NumberPair {
     pub second: u32,
 }
 
-/// The first message of a digest.
-#[derive(Drop)]
-pub struct FirstMessage {
-    pub number: u32,
-    pub text: Vec<u8>,
-}
-
-/// The digests listed so far, by the first message of each; how many messages there are; the first
-/// two that share a digest; and the first whose digest is zero.
+/// The digests listed so far, by the number of the first message of each; how many messages there
+/// are; the first two that share a digest; and the first whose digest is zero.
 #[derive(Drop)]
 pub struct DigestIndex {
-    firsts: BTreeMap<[u8; 32], FirstMessage>,
+    firsts: BTreeMap<[u8; 32], u32>,
     pub count: u32,
     pub shared: Option<NumberPair>,
     pub zero: Option<u32>,
@@ -66,17 +59,13 @@ fn is_zero(digest: &Digest) -> bool
     *digest == zero()
 }
 
-/// Notes this message at a digest.
-fn put(
-    firsts: &mut BTreeMap<[u8; 32], FirstMessage>,
-    digest: [u8; 32],
-    first: FirstMessage,
-) -> Result<(), Memory>
+/// Notes this number at a digest.
+fn put(firsts: &mut BTreeMap<[u8; 32], u32>, digest: [u8; 32], number: u32) -> Result<(), Memory>
     ensures { OnOk result ((d : List ℕ) → get (slice_cmp nat_cmp) firsts.new d
-        ≡ (if is_eq (slice_cmp nat_cmp digest d) then Some first
+        ≡ (if is_eq (slice_cmp nat_cmp digest d) then Some number
         else get (slice_cmp nat_cmp) firsts.old d)) }
 {
-    match firsts.insert(digest, first) {
+    match firsts.insert(digest, number) {
         Ok(_) => Ok(()),
         Err(_) => Err(Memory),
     }
@@ -95,26 +84,24 @@ impl DigestIndex {
         }
     }
 
-    /// The first message of a digest.
-    pub fn first(&self, digest: &Digest) -> Option<&FirstMessage>
-        ensures { option_copied result ≡ first_at self.now digest.now.bytes }
+    /// The number of the first message of a digest.
+    pub fn first(&self, digest: &Digest) -> Option<u32>
+        ensures { result ≡ number_at self.now digest.now.bytes }
     {
-        self.firsts.get(&digest.bytes)
+        self.firsts.get(&digest.bytes).copied()
     }
 
     /// One more message, the first of its digest.
-    pub fn add_first(&mut self, alloc: Global, digest: &Digest, text: &[u8]) -> Result<(), Memory>
+    pub fn add_first(&mut self, digest: &Digest) -> Result<(), Memory>
         requires { self.old.count < 2 ^ 32 - 1 }
         ensures rises { self.new.count ≤ self.old.count + 1 }
         ensures adds { OnOk result (AddsDigest digest.now.bytes self.old self.new) }
         ensures shared { self.new.shared ≡ self.old.shared }
-        ensures first { OnOk result (TakesFirst text.now digest.now.bytes self.old self.new) }
+        ensures first { OnOk result ((d : List ℕ) → number_at self.new d
+            ≡ (if is_eq (slice_cmp nat_cmp digest.now.bytes d) then Some (self.old.count + 1)
+            else number_at self.old d)) }
     {
-        let first = FirstMessage {
-            number: self.count + 1,
-            text: Vec::from_slice(alloc, text)?,
-        };
-        put(&mut self.firsts, digest.bytes, first)?;
+        put(&mut self.firsts, digest.bytes, self.count + 1)?;
         self.count_one(digest);
         Ok(())
     }

@@ -5,7 +5,9 @@
 mod digests;
 mod guards;
 mod messages;
+mod texts;
 
 pub use digests::{DigestIndex, NumberPair, first_then};
 pub use guards::first_secured;
 pub use messages::Numbers;
+pub use texts::TextList;

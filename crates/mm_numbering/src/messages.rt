@@ -1,36 +1,23 @@
 //! Messages with their numbers.
 
-ghost use Rattle.std.specs.Prelude.{◌≡◌, ◌+◌, ◌-◌, ◌<◌, ◌≤◌, ◌^◌, ◌||◌, not, ℕ, List, [], length, IfOk, OnOk};
-ghost use Rattle.std.specs.List.{fold};
+ghost use Rattle.std.specs.Prelude.{◌≡◌, ◌+◌, ◌-◌, ◌<◌, ◌≤◌, ◌^◌, ℕ, List, [], true, false, None, Some, length, OnOk};
+ghost use Rattle.std.specs.List.{fold, list_any};
 ghost use Rattle.std.specs.Str.{bytes_eq};
+ghost use Rattle.sha2.specs.Sha256.{sha256};
 ghost use Rattle.mm_numbering.specs.Listing.{messages_with};
-ghost use Rattle.mm_numbering.specs.Lists.{has_message, HasOtherFirst, ListsMessages};
+ghost use Rattle.mm_numbering.specs.Lists.{number_at, ListsMessages};
 
 use crate::digests::DigestIndex;
+use crate::texts::TextList;
 use mm_base::Memory;
 use mm_history::Message;
 use std::alloc::Global;
-use std::collections::BTreeSet;
 
-/// The messages listed so far, each once: by their digests the first of each, and apart from these
-/// the others, of which there are none as long as no two different messages share a digest.
+/// The messages listed so far, each once and in order, and their digests.
 #[derive(Drop)]
 pub struct Numbers {
-    others: BTreeSet<Vec<u8>>,
+    texts: TextList,
     pub digests: DigestIndex,
-}
-
-/// Keeps a message, and answers whether it is a new one.
-fn keep(seen: &mut BTreeSet<Vec<u8>>, alloc: Global, message: &[u8]) -> Result<bool, Memory>
-    ensures new { IfOk result (λ is_new. is_new ≡ not (has_message seen.old.keys message.now)) }
-    ensures has { OnOk result ((m : List ℕ)
-        → has_message seen.new.keys m ≡ (bytes_eq m message.now || has_message seen.old.keys m)) }
-{
-    let key = Vec::from_slice(alloc, message)?;
-    let Ok(is_new) = seen.insert(key) else {
-        return Err(Memory);
-    };
-    Ok(is_new)
 }
 
 impl Numbers {
@@ -39,52 +26,71 @@ impl Numbers {
         ensures { ListsMessages [] result }
     {
         Numbers {
-            others: BTreeSet::new(alloc),
+            texts: TextList::new(alloc),
             digests: DigestIndex::new(alloc),
         }
     }
 
-    /// Lists a message, if it hasn't come before.
-    pub fn list(&mut self, alloc: Global, message: &Message) -> Result<(), Memory>
+    /// Lists a message, if it hasn't come before: then it is the first of its digest, or, where two
+    /// messages share a digest, one of all.
+    pub fn list(&mut self, message: &Message) -> Result<(), Memory>
         requires { self.old.digests.count < 2 ^ 32 - 1 }
         ensures lists { (seen : List (List ℕ)) → ListsMessages seen self.old
             → OnOk result (ListsMessages (messages_with seen message.now) self.new) }
         ensures rises { self.new.digests.count ≤ self.old.digests.count + 1 }
     {
-        let text = message.as_slice();
-        let digest = message.digest();
-        match self.digests.first(digest) {
-            None => self.digests.add_first(alloc, digest, text),
-            Some(first) if first.text.as_slice() == text => Ok(()),
-            Some(first) => {
-                let number = first.number;
-                self.list_other(alloc, number, message)
-            }
+        match self.digests.first(message.digest()) {
+            None => self.list_first(message),
+            Some(first) if self.is_numbered(first, message) || self.texts.has(message.as_slice()) =>
+                { Ok(()) }
+            Some(first) => self.list_shared(first, message),
         }
     }
 
-    // Lists a message whose digest is another message's, of this number, if it hasn't come before.
-    fn list_other(&mut self, alloc: Global, first: u32, message: &Message) -> Result<(), Memory>
+    // Whether this is the message of this number.
+    fn is_numbered(&self, number: u32, message: &Message) -> bool
+        ensures { result ≡ true → list_any (bytes_eq message.now) self.now.texts ≡ true }
+    {
+        match self.texts.get(number.saturating_sub(1) as usize) {
+            Some(text) => message.as_slice() == text,
+            None => false,
+        }
+    }
+
+    // Lists a message whose digest no message has.
+    fn list_first(&mut self, message: &Message) -> Result<(), Memory>
         requires count { self.old.digests.count < 2 ^ 32 - 1 }
-        requires other { HasOtherFirst self.old.digests first message.now }
+        requires none { number_at self.old.digests (sha256 message.now) ≡ None }
         ensures lists { (seen : List (List ℕ)) → ListsMessages seen self.old
             → OnOk result (ListsMessages (messages_with seen message.now) self.new) }
         ensures rises { self.new.digests.count ≤ self.old.digests.count + 1 }
     {
-        if keep(&mut self.others, alloc, message.as_slice())? {
-            self.digests.add_shared(message.digest(), first);
-        }
+        self.texts.push(message.as_slice())?;
+        self.digests.add_first(message.digest())
+    }
+
+    // Lists a message that hasn't come before, whose digest the message of this number has.
+    fn list_shared(&mut self, first: u32, message: &Message) -> Result<(), Memory>
+        requires count { self.old.digests.count < 2 ^ 32 - 1 }
+        requires first { number_at self.old.digests (sha256 message.now) ≡ Some first }
+        requires new { list_any (bytes_eq message.now) self.old.texts ≡ false }
+        ensures lists { (seen : List (List ℕ)) → ListsMessages seen self.old
+            → OnOk result (ListsMessages (messages_with seen message.now) self.new) }
+        ensures rises { self.new.digests.count ≤ self.old.digests.count + 1 }
+    {
+        self.texts.push(message.as_slice())?;
+        self.digests.add_shared(message.digest(), first);
         Ok(())
     }
 
     /// Lists these messages, one after another.
-    pub fn list_all(&mut self, alloc: Global, messages: &[Message]) -> Result<(), Memory>
+    pub fn list_all(&mut self, messages: &[Message]) -> Result<(), Memory>
         requires { self.old.digests.count + length messages.now < 2 ^ 32 - 1 }
         ensures { (seen : List (List ℕ)) → ListsMessages seen self.old
             → OnOk result (ListsMessages (fold messages_with seen messages.now) self.new) }
     {
         'messages: for message in messages {
-            self.list(alloc, message)?;
+            self.list(message)?;
         }
         Ok(())
     }

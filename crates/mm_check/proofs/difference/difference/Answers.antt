@@ -6,14 +6,14 @@ use Rattle.mm_check.proofs.difference.difference.Goals as goal
 pub returns-then-not-is_at : goal.returns-then-not-is_at
 returns-then-not-is_at c =
     sym (ap agreement_of (rw c.if-not-is_at.true at
-    (next_line c.args.tested.now c.args.expected.now c.lines.index c.line-line.result.now c.is_at.result c.lines.invariant
-    c.line-line.ensures c.is_at.ensures)))
+    (next_line c.args.tested.now c.args.expected.now c.lines.index c.at-line.result.now c.is_at.result c.lines.invariant
+    c.at-line.ensures c.is_at.ensures)))
 
 pub lines-preserved : goal.lines-preserved
 lines-preserved c =
     rw c.if-not-is_at.false at
-    (next_line c.args.tested.now c.args.expected.now c.lines.index c.line-line.result.now c.is_at.result c.lines.invariant
-    c.line-line.ensures c.is_at.ensures)
+    (next_line c.args.tested.now c.args.expected.now c.lines.index c.at-line.result.now c.is_at.result c.lines.invariant
+    c.at-line.ensures c.is_at.ensures)
 
 pub returns-then-len : goal.returns-then-len
 returns-then-len c =

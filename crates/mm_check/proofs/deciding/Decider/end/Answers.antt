@@ -14,6 +14,6 @@ returns c =
           (decided header es c.args.self.now c.in_ok-secured.secured c.requires.stands c.in_ok-secured.ensures);
       lines =
           c.replace.ensures.value
-          ∙ lines_end header es c.args.self.now c.committed.result c.issued.result c.put_last.new.self c.requires.stands
+          ∙ lines_end header es c.args.self.now c.committed.result c.issued.result c.put_last.new.lines c.requires.stands
           c.committed.ensures c.issued.ensures c.in_ok-put_last.ensures;
     }

@@ -1,11 +1,11 @@
--- Lines that stand in one text, once it is longer.
-use Rattle.std.proofs.Common.{ℕ, ◌≡◌, ◌∙◌, ◌+◌, ◌-◌, ◌<◌, ◌≤◌, zero, suc, List, [], ◌∷◌, ◌++◌, length, map, take, drop, get_or, Some, refl, ap, sym, subst, arith, append_assoc}
+-- Byte lists that stand in one text, once it is longer.
+use Rattle.std.proofs.Common.{ℕ, ◌≡◌, ◌∙◌, ◌-◌, ◌<◌, ◌≤◌, zero, suc, List, [], ◌∷◌, ◌++◌, length, map, take, drop, get_or, Some, refl, ap, sym, subst, arith}
 use Rattle.std.specs.Prelude.{slice_range, slice_get}
 use Rattle.std.specs.Option.{option_map}
-use Rattle.std.proofs.lemmas.List.{length-append, length-drop, drop-append-le, take-append-le, drop_at, take_all, map-append, take_more}
-use Rattle.std.proofs.lemmas.Option.{slice_get_read, slice_get_within, get_or_from_slice_get}
-use Rattle.mm_check.specs.TextLines.{line_in, lines_at, AreWithin}
-use Rattle.mm_check.specs.declared.lines.Span.{Span}
+use Rattle.std.proofs.lemmas.List.{length-append, length-drop, drop-append-le, take-append-le, drop_at, take_all, map-append}
+use Rattle.std.proofs.lemmas.Option.{slice_get_read}
+use Rattle.mm_numbering.specs.TextList.{bytes_in, parts_at, AreWithin}
+use Rattle.mm_numbering.specs.declared.texts.Span.{Span}
 
 pub within-more : (n m : ℕ) (spans : List Span) → n ≤ m → AreWithin n spans → AreWithin m spans
 within-more n m [] le h = tt
@@ -21,10 +21,10 @@ same_part text more a b rises ends =
     ap (take (b - a)) (drop-append-le a text more (omega (arith, rises, ends)))
     ∙ take-append-le (b - a) (drop a text) more (omega (arith, length-drop a text, rises, ends))
 
-pub same_lines : (text more : List ℕ) (spans : List Span) → AreWithin (length text) spans
-    → lines_at (text ++ more) spans ≡ lines_at text spans
-same_lines text more [] h = refl
-same_lines text more (s ∷ ss) h = λ j. same_part text more s.start s.end h.0 h.1 j ∷ same_lines text more ss h.2 j
+pub same_parts : (text more : List ℕ) (spans : List Span) → AreWithin (length text) spans
+    → parts_at (text ++ more) spans ≡ parts_at text spans
+same_parts text more [] h = refl
+same_parts text more (s ∷ ss) h = λ j. same_part text more s.start s.end h.0 h.1 j ∷ same_parts text more ss h.2 j
 
 -- what was put behind a text
 last_part : (text more : List ℕ) → slice_range (text ++ more) (length text) (length (text ++ more)) ≡ more
@@ -32,12 +32,12 @@ last_part text more =
     ap (take (length (text ++ more) - length text)) (drop_at text more (length text) refl)
     ∙ take_all (length (text ++ more) - length text) more (omega (arith, length-append text more))
 
-pub lines-pushed : (text line : List ℕ) (spans : List Span) (s : Span) → AreWithin (length text) spans → s.start ≡ length text
-    → s.end ≡ length (text ++ line) → lines_at (text ++ line) (spans ++ s ∷ []) ≡ lines_at text spans ++ line ∷ []
-lines-pushed text line spans s h start end =
-    map-append (line_in (text ++ line)) spans (s ∷ [])
-    ∙ (λ j. same_lines text line spans h j ++ slice_range (text ++ line) (start j) (end j) ∷ [])
-    ∙ ap (λ (l : List ℕ). lines_at text spans ++ l ∷ []) (last_part text line)
+pub parts-pushed : (text line : List ℕ) (spans : List Span) (s : Span) → AreWithin (length text) spans → s.start ≡ length text
+    → s.end ≡ length (text ++ line) → parts_at (text ++ line) (spans ++ s ∷ []) ≡ parts_at text spans ++ line ∷ []
+parts-pushed text line spans s h start end =
+    map-append (bytes_in (text ++ line)) spans (s ∷ [])
+    ∙ (λ j. same_parts text line spans h j ++ slice_range (text ++ line) (start j) (end j) ∷ [])
+    ∙ ap (λ (l : List ℕ). parts_at text spans ++ l ∷ []) (last_part text line)
 
 pub slice_get-map : {A B : Type 0} (f : A → B) (xs : List A) (i : ℕ) → slice_get (map f xs) i ≡ option_map f (slice_get xs i)
 slice_get-map f [] i = refl
@@ -71,16 +71,7 @@ module _ (text line new : List ℕ) (spans news : List Span) (h : AreWithin (len
         (within-more (length text) (length new) spans (omega (arith, ap length longer, length-append text line)) h)
         (omega (arith, start, end, ap length longer, length-append text line)) (omega (arith, end)))
 
-    pub lines-with : lines_at new news ≡ lines_at text spans ++ line ∷ []
-    lines-with =
-        (λ j. lines_at (longer j) (more j))
-        ∙ lines-pushed text line spans (record { start = a; end = b }) h start (end ∙ ap length longer)
-
--- one line more of a reply
-pub lines_more : (first old new lines : List (List ℕ)) (i : ℕ) (line : List ℕ) → old ≡ first ++ take i lines → slice_get lines i ≡ Some line
-    → new ≡ old ++ line ∷ [] → new ≡ first ++ take (i + 1) lines
-lines_more first old new lines i line was at is =
-    let within : i < length lines = slice_get_within lines i line at in
-    is ∙ ap (λ (l : List (List ℕ)). l ++ line ∷ []) was ∙ append_assoc first (take i lines) (line ∷ [])
-    ∙ ap (λ (l : List (List ℕ)). first ++ l)
-    (sym (take_more lines i line within ∙ ap (λ (l : List ℕ). take i lines ++ l ∷ []) (get_or_from_slice_get lines i line line at)))
+    pub parts-with : parts_at new news ≡ parts_at text spans ++ line ∷ []
+    parts-with =
+        (λ j. parts_at (longer j) (more j))
+        ∙ parts-pushed text line spans (record { start = a; end = b }) h start (end ∙ ap length longer)

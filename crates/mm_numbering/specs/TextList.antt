@@ -1,14 +1,14 @@
--- Lines that stand in one text.
+-- Byte lists that stand in one text.
 use Rattle.std.specs.Prelude.{ℕ, ◌≤◌, List, [], ◌∷◌, map, slice_range}
-use Rattle.mm_check.specs.declared.lines.Span.{Span}
+use Rattle.mm_numbering.specs.declared.texts.Span.{Span}
 
 -- the bytes of a text from a span's start to its end
-abbrev pub line_in : List ℕ → Span → List ℕ
-line_in text span = slice_range text span.start span.end
+abbrev pub bytes_in : List ℕ → Span → List ℕ
+bytes_in text span = slice_range text span.start span.end
 
 -- those of each span
-abbrev pub lines_at : List ℕ → List Span → List (List ℕ)
-lines_at text spans = map (line_in text) spans
+abbrev pub parts_at : List ℕ → List Span → List (List ℕ)
+parts_at text spans = map (bytes_in text) spans
 
 -- each span lies in a text of this length
 abbrev pub AreWithin : ℕ → List Span → Type 0
