@@ -7,7 +7,7 @@ use Rattle.mm_app.specs.StatusFacts.{EndsByFault}
 use Rattle.mm_app.proofs.Below.{◌∙◌, sym, status_by, Memory, TooMuch}
 use Rattle.mm_app.specs.StatusFacts.{IsExactlyWhere}
 use Rattle.mm_base.specs.declared.fault.WriteFault as write
-use Rattle.mm_base.specs.declared.replay_fault.ReplayFault.TheVariants as replay
+use Rattle.mm_lines.specs.declared.replay_fault.ReplayFault.TheVariants as replay
 use Rattle.mm_play.specs.Play.{PlayOutcome}
 use Rattle.mm_replay.specs.Schedule.{ReplayStage}
 use Rattle.mm_gen.specs.Replay.{IsReplayed, replay_of}

@@ -4,7 +4,7 @@ use Rattle.mm_call.specs.CallFinding.{finding_at}
 use Rattle.mm_call.specs.Untouched.{IsUntouched}
 use Rattle.mm_call.specs.Levels.{digest_level}
 use Rattle.mm_call.specs.Standing.{StandsAt, instance_by}
-use Rattle.mm_base.specs.declared.replay_fault.ReplayFault.TheVariants as replay
+use Rattle.mm_lines.specs.declared.replay_fault.ReplayFault.TheVariants as replay
 use Rattle.mm_digest.specs.Messages.{zero_bytes}
 use Rattle.mm_digest.specs.declared.variant.Variant.TheVariants.{Basic, Opt}
 use Rattle.mm_gen.specs.Replay.{replay_of}

@@ -26,7 +26,7 @@ use crate::replay::replay_and_stop;
 use crate::schedule::write_schedule;
 use crate::slots::play_slots;
 use crate::transfer::play_transfer;
-use mm_base::{Sink, Source};
+use mm_lines::{Sink, Source};
 use mm_host_commands::{close_segment, lose_power, run_instance, start_instance};
 use mm_platform::Platform;
 use mm_status::{Status, stopped};

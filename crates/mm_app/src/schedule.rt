@@ -5,7 +5,7 @@ ghost use Rattle.mm_base.specs.Limits.{most_events};
 ghost use Rattle.mm_gen.specs.Schedules.{schedule_text};
 ghost use Rattle.mm_status.specs.CommandOutput.{StopsAs, WritesText};
 
-use mm_base::Sink;
+use mm_lines::Sink;
 use mm_gen::gen_;
 use mm_status::{Status, stopped, written};
 use mm_words::GeneratedSchedule;

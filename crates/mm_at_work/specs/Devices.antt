@@ -2,7 +2,7 @@
 -- pages.
 use Rattle.std.specs.Prelude.{ℕ, List, true, None, Some}
 use Rattle.std.specs.Option.{option_map}
-use Rattle.mm_base.specs.Streams.{Supply}
+use Rattle.mm_lines.specs.Streams.{Supply}
 use Rattle.mm_host.specs.SessionStanding.{SessionStanding, session_standing}
 use Rattle.mm_life.specs.Stages.{ProgramStanding, program_standing}
 use Rattle.mm_recovery.specs.HostStanding.{HostStanding, host_standing}

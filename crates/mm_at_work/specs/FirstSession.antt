@@ -1,7 +1,7 @@
 -- What a first start, and a session behind it, come to over devices in memory.
 use Rattle.std.specs.Prelude.{◌≡◌, ℕ, List, ◌++◌, None, Result, length, take}
 use Rattle.std.specs.List.{Contains}
-use Rattle.mm_base.specs.Input.{lines_of}
+use Rattle.mm_lines.specs.Input.{lines_of}
 use Rattle.mm_digest.specs.Messages.{start_message}
 use Rattle.mm_digest.specs.declared.variant.Variant.TheVariants.{Basic}
 use Rattle.mm_module.specs.Batch.{Batch}

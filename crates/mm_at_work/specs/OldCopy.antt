@@ -1,6 +1,6 @@
 -- What a session comes to over an old copy of the pages, or over any other pages.
 use Rattle.std.specs.Prelude.{◌≡◌, ℕ, List, ◌++◌, Option, Some, Result}
-use Rattle.mm_base.specs.Input.{lines_of}
+use Rattle.mm_lines.specs.Input.{lines_of}
 use Rattle.mm_digest.specs.declared.variant.Variant.{Variant}
 use Rattle.mm_digest.specs.declared.variant.Variant.TheVariants.{Basic, Opt}
 use Rattle.mm_platform.specs.Standing.{Item}

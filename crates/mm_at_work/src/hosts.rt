@@ -10,7 +10,7 @@ ghost use Rattle.mm_at_work.specs.Verbs.{verb_command};
 use crate::commands::{commands_keep_promises, run_command};
 use crate::sessions::{start, tells_cell};
 use mm_app::Status;
-use mm_base::{MemSink, MemSource, Sink, Source};
+use mm_lines::{MemSink, MemSource, Sink, Source};
 use mm_digest::Variant;
 use mm_modules::AnyModule;
 use mm_pages::{MemPages, PageStore};

@@ -1,5 +1,1 @@
-pub mod Above
 mod Below
-mod LineLemmas
-mod ReadingLemmas
-mod StreamLemmas

@@ -1,12 +1,6 @@
 pub mod Decimals
 pub mod Faults
 pub mod Fields
-pub mod HeldBytes
-pub mod Input
 pub mod Limits
-pub mod Lines
-pub mod ReadsNextLine
-pub mod Streams
 pub mod FieldLaws
-pub mod InputLaws
 pub mod DecimalLaws

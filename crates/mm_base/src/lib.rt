@@ -1,5 +1,5 @@
-//! What every crate of Memoir stands on: bytes, their sources and sinks, lines, decimals, numbers
-//! of fixed length and faults.
+//! What every crate of Memoir stands on: bytes, decimals, numbers of fixed length, limits and
+//! faults.
 #![tactic(auto)]
 
 mod bytes;
@@ -7,10 +7,6 @@ mod decimal;
 mod fault;
 mod fields;
 mod limits;
-mod lines;
-mod replay_fault;
-mod sink;
-mod source;
 
 pub use bytes::Bytes;
 pub use decimal::{put_decimal, put_numbered, read_decimal};
@@ -19,7 +15,3 @@ pub use fields::{bytes_of_u32, bytes_of_u64, split_u32, split_u64};
 pub use limits::{
     CELL_LENGTH, LAST_POSITION, LONGEST_LINE, LONGEST_REQUEST, MOST_EVENTS, MOST_MEMBERS,
 };
-pub use lines::{LineFault, LineReader, Read};
-pub use replay_fault::ReplayFault;
-pub use sink::{MemSink, Sink, write_all};
-pub use source::{MemSource, Source};

@@ -2,7 +2,8 @@
 
 ghost use Rattle.std.specs.Prelude.{None};
 
-use mm_base::{Failed, Sink};
+use mm_base::Failed;
+use mm_lines::Sink;
 
 /// A sink that takes every byte and keeps none.
 #[derive(Drop)]

@@ -3,7 +3,8 @@
 ghost use Rattle.std.specs.Prelude.{None};
 
 use crate::commands::{play, replay};
-use mm_base::{Bytes, Failed, MemSink, Memory, Source};
+use mm_base::{Bytes, Failed, Memory};
+use mm_lines::{MemSink, Source};
 use std::alloc::{AllocError, Global};
 use std::test::Fail;
 

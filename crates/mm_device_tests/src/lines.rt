@@ -1,6 +1,7 @@
 //! Lines of an input that fails, or that has longer ones.
 
-use mm_base::{Bytes, LineFault, LineReader, MemSource, Memory, Read, read_decimal};
+use mm_base::{Bytes, Memory, read_decimal};
+use mm_lines::{LineFault, LineReader, MemSource, Read};
 use std::alloc::Global;
 use std::test::Fail;
 

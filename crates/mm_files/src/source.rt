@@ -4,7 +4,8 @@ ghost use Rattle.std.specs.Prelude.{◌≡◌, ◌≤◌, None, IfOk, length};
 
 use crate::counting::counted;
 use crate::reason::{Reason, named};
-use mm_base::{Failed, Source};
+use mm_base::Failed;
+use mm_lines::Source;
 use std::fs;
 use std::io::Read;
 use std::os::unix::fs::FileTypeExt;

@@ -2,7 +2,7 @@
 
 ghost use Rattle.std.specs.Prelude.{◌≡◌, ◌<◌, ℕ, List, [], ◌∷◌, ◌++◌, length, take, OnOk, IfOk};
 ghost use Rattle.std.specs.Fmt.{decimal};
-ghost use Rattle.mm_base.specs.Input.{joined_lines};
+ghost use Rattle.mm_lines.specs.Input.{joined_lines};
 ghost use Rattle.mm_platform.specs.declared.plan.Stop.TheVariants.{Quiet};
 ghost use Rattle.mm_gen.specs.Lines.{lines_of_turn, stop_text};
 ghost use Rattle.mm_gen.specs.TurnLines.{cut_word, chosen_request, row_14, row_15, turn_lines};

@@ -1,7 +1,7 @@
 //! A session: the lines of an input, each asked and told, one after another.
 
 ghost use Rattle.std.specs.Prelude.{◌≡◌, ◌+◌, ◌≤◌, ℕ, false, List, [], Option, IfOk, IfSome};
-ghost use Rattle.mm_base.specs.Lines.{IsLineFront};
+ghost use Rattle.mm_lines.specs.Lines.{IsLineFront};
 ghost use Rattle.mm_base.specs.Limits.{longest_request};
 ghost use Rattle.mm_play.specs.PlaysInput.{IsBlamed};
 ghost use Rattle.mm_recovery.specs.HostStanding.{host_standing};
@@ -17,7 +17,8 @@ ghost use Rattle.mm_host.specs.Sessions.{IsSession, most_lines, AsksAndTells, By
 use crate::fault::SessionFault;
 use crate::telling::tell;
 use mm_ask::Caller;
-use mm_base::{LONGEST_REQUEST, LineFault, LineReader, Read, ReplayFault, Sink, Source};
+use mm_base::LONGEST_REQUEST;
+use mm_lines::{LineFault, LineReader, Read, ReplayFault, Sink, Source};
 use mm_digest::Variant;
 use mm_module::Module;
 use mm_platform::Platform;

@@ -2,7 +2,7 @@
 
 ghost use Rattle.std.specs.Prelude.{◌≡◌, ◌≢◌, ◌≤◌, None, Ok, Err, IfOk, OnErr, length};
 ghost use Rattle.mm_base.specs.Faults.{CountsFaults};
-ghost use Rattle.mm_base.specs.Streams.{SinkSends};
+ghost use Rattle.mm_lines.specs.Streams.{SinkSends};
 ghost use Rattle.mm_base.specs.Limits.{longest_request};
 ghost use Rattle.mm_play.specs.PlaysInput.{IsBlamed};
 ghost use Rattle.mm_schedule.specs.RepliesWords.{told_line};
@@ -13,7 +13,8 @@ ghost use Rattle.mm_host.specs.Sessions.{TellsReply, told_cause, refusal_text};
 ghost use Rattle.mm_host.specs.SessionBlame.{is_write_fault};
 
 use crate::fault::SessionFault;
-use mm_base::{ReplayFault, Sink, WriteFault, write_all};
+use mm_base::WriteFault;
+use mm_lines::{ReplayFault, Sink, write_all};
 use mm_model::{Answer, Refusal};
 use mm_recovery::{HostFault, Resumed};
 use mm_schedule::{Cause, Reply, print_line, print_told};

@@ -6,7 +6,8 @@ ghost use Rattle.mm_host_commands.specs.Outside.{outside};
 ghost use Rattle.mm_host_commands.specs.Run.{LooksAtInstance, RunsInstance, SeesInstance, ServesAndStops};
 
 use crate::session_status::of_session;
-use mm_base::{CELL_LENGTH, Sink, Source};
+use mm_base::CELL_LENGTH;
+use mm_lines::{Sink, Source};
 use mm_host::session;
 use mm_modules::by_id;
 use mm_platform::Platform;

@@ -1,7 +1,7 @@
 -- What the calls of a part of a life were to write: by what they told, and by the last one.
 use Rattle.std.proofs.Common.{◌≡◌, ◌≤◌, ◌∙◌, ◌+◌, ℕ, zero, suc, Bool, true, false, List, [], ◌∷◌, Option, None, Some, Result}
 use Rattle.std.proofs.Common.{Ok, Err, arith, refl, sym, ap, subst, inl, inr}
-use Rattle.mm_base.specs.declared.replay_fault.ReplayFault.TheVariants.{WriteFault}
+use Rattle.mm_lines.specs.declared.replay_fault.ReplayFault.TheVariants.{WriteFault}
 use Rattle.mm_digest.specs.declared.variant.Variant.{Variant}
 use Rattle.mm_digest.specs.declared.variant.Variant.TheVariants.{Basic, Opt}
 use Rattle.mm_platform.specs.Standing.{Standing}

@@ -1,6 +1,6 @@
 -- A session as its calls: those that it told, one after another; and at most one behind them that it didn't tell.
 use Rattle.std.proofs.Common.{◌≡◌, ◌∙◌, ℕ, List, [], ◌∷◌, ◌++◌, Option, None, Some, Result, Ok, Err, ap, refl, sym, inl, inr}
-use Rattle.mm_base.specs.declared.replay_fault.ReplayFault.TheVariants as input
+use Rattle.mm_lines.specs.declared.replay_fault.ReplayFault.TheVariants as input
 use Rattle.mm_digest.specs.declared.variant.Variant.{Variant}
 use Rattle.mm_platform.specs.Standing.{Standing}
 use Rattle.mm_module.specs.Meaning.{Meaning}

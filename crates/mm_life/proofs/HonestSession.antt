@@ -1,7 +1,7 @@
 -- A session over an honest store, by the calls that it made: it goes on from a history that the slots fit.
 use Rattle.std.proofs.Common.{◌≡◌, ◌∙◌, ◌⊎◌, ◌+◌, ℕ, true, List, [], ◌∷◌, ◌++◌, map, Option, None, Some, Result, Ok, Err, refl, sym, subst, inl}
 use Rattle.std.proofs.Common.{inr}
-use Rattle.mm_base.specs.declared.replay_fault.ReplayFault.TheVariants.{WriteFault}
+use Rattle.mm_lines.specs.declared.replay_fault.ReplayFault.TheVariants.{WriteFault}
 use Rattle.mm_digest.specs.declared.variant.Variant.{Variant}
 use Rattle.mm_platform.specs.Standing.{Standing}
 use Rattle.mm_module.specs.Batch.{Batch}

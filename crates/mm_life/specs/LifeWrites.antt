@@ -1,6 +1,6 @@
 -- How often the cell is written over a life.
 use Rattle.std.specs.Prelude.{◌≡◌, ◌+◌, ◌≤◌, ℕ, zero, suc, Bool, true, false, List, [], ◌∷◌, Option, None, Some, Result, Ok, Err, length}
-use Rattle.mm_base.specs.declared.replay_fault.ReplayFault.TheVariants.{WriteFault}
+use Rattle.mm_lines.specs.declared.replay_fault.ReplayFault.TheVariants.{WriteFault}
 use Rattle.mm_opt.specs.declared.segment.CheckpointRefusal.TheVariants.{Device}
 use Rattle.mm_recovery.specs.declared.fault.HostFault.TheVariants.{Refused}
 use Rattle.mm_host.specs.declared.fault.SessionFault.TheVariants.{Host, Lines}

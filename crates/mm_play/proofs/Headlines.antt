@@ -4,7 +4,7 @@ use Rattle.mm_play.proofs.Below.{sym, ap, subst, append-nil, append_assoc, arith
 use Rattle.mm_play.proofs.Below.{tail_of, joined_lines, ReplayFault, Memory, ReadFault, WriteFault, BadLine, LineLong, TooMuch}
 use Rattle.mm_play.proofs.Below.{longest_line, LineRefusal, Bad, Much, play_outcome, outcome_of_lines, outcome_of_input, HoldsOfWhole}
 use Rattle.mm_play.proofs.Below.{AnswerFits, IsFrontOf}
-use Rattle.mm_base.specs.InputLaws.{joined-append}
+use Rattle.mm_lines.specs.InputLaws.{joined-append}
 use Rattle.mm_play.specs.Counting.{same_answer, no_answer}
 use Rattle.mm_play.specs.HeadingStep.{HeadingStep, More, Begins}
 use Rattle.mm_play.specs.Headline.{EventPlayer, HeadingLeads, IsNextLine, IsOver, IsLeft, TextWentOut, AreAnswered}

@@ -2,7 +2,7 @@
 use Rattle.mm_play.proofs.Below.{◌≡◌, ◌∙◌, ℕ, List, [], ◌∷◌, ◌++◌, Result, Ok, Err, Option, None, Some, refl, sym, ap, subst, append-nil}
 use Rattle.mm_play.proofs.Below.{inl, inr, ReplayFault, Memory, ReadFault, WriteFault, BadLine, LineLong, TooMuch}
 use Rattle.mm_play.proofs.Below.{IsFrontOf, Consumes-nil, Appends-trans, PlaysInput, length}
-use Rattle.mm_base.specs.Streams.{SinkSends}
+use Rattle.mm_lines.specs.Streams.{SinkSends}
 use Rattle.mm_base.specs.declared.fault.WriteFault as write
 use Rattle.mm_play.specs.Headline.{EventPlayer, IsLeft, TextWentOut, AreAnswered, TellsEvents}
 use Rattle.mm_play.specs.PlaysEvents.{PlaysEvents}

@@ -1,7 +1,7 @@
 -- The words that the definitions of this crate take from the crates below.
 pub use Rattle.mm_base.specs.Faults.{CountsFaults, CountRose}
 pub use Rattle.mm_base.specs.Limits.{last_position, longest_request}
-pub use Rattle.mm_base.specs.Lines.{IsLineFront}
+pub use Rattle.mm_lines.specs.Lines.{IsLineFront}
 pub use Rattle.mm_base.specs.declared.fault.Failed.{Failed}
 pub use Rattle.mm_digest.specs.Messages.{start_message}
 pub use Rattle.mm_digest.specs.declared.variant.Variant.{Variant}

@@ -9,7 +9,7 @@ ghost use Rattle.mm_replay.specs.WholeReplay.{ReplaysSchedule, ReportsReplay};
 use crate::heading::HeaderLine;
 use crate::replaying::ScheduleReplay;
 use crate::report::Report;
-use mm_base::{ReplayFault, Sink, Source};
+use mm_lines::{ReplayFault, Sink, Source};
 use mm_evidence::premises_or_evidence;
 use mm_outcome::fronts_are_one_run;
 use mm_play::{LinePlayer, play};

@@ -1,6 +1,7 @@
 //! What faults say.
 
-use mm_base::{Failed, LineFault, Memory, ReplayFault, WriteFault};
+use mm_base::{Failed, Memory, WriteFault};
+use mm_lines::{LineFault, ReplayFault};
 use mm_gen::BulkFault;
 use mm_host::{HostFault, InitFault, SessionFault};
 use mm_model::Refusal;

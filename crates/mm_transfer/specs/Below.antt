@@ -1,7 +1,7 @@
 -- The words that the definitions of this crate take from the crates below.
 pub use Rattle.mm_base.specs.Limits.{most_events, most_members}
 pub use Rattle.mm_base.specs.declared.fault.Memory.{Memory}
-pub use Rattle.mm_base.specs.declared.replay_fault.ReplayFault.{ReplayFault}
+pub use Rattle.mm_lines.specs.declared.replay_fault.ReplayFault.{ReplayFault}
 pub use Rattle.mm_digest.specs.declared.variant.Variant.{Variant}
 pub use Rattle.mm_digest.specs.declared.variant.Variant.TheVariants.{Basic, Opt}
 pub use Rattle.mm_seal.specs.Cell.{FitsVariant, blank_cell, cell_spelling}
