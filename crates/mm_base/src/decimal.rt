@@ -41,7 +41,7 @@ fn has_decimal_form(bytes: &[u8]) -> bool
 fn are_digits(bytes: &[u8]) -> bool
     ensures { result ≡ list_all is_ascii_digit bytes.now }
 {
-    bytes.iter().all(|byte| byte.is_ascii_digit())
+    bytes.iter().all(u8::is_ascii_digit)
 }
 
 /// The number that a decimal writes, where it has at most 64 bits.

@@ -1,4 +1,5 @@
-use Rattle.std.proofs.Common.{rules, ◌∙◌}
+use Rattle.std.proofs.lemmas.Grind.{common_steps}
+use Rattle.std.proofs.Common.{rules, ◌∙◌, arith}
 use Rattle.mm_lines.proofs.StreamLemmas.{FrontGoesOut-more, FrontGoesOut-short}
 use Rattle.mm_lines.proofs.sink.write_all.Goals as goal
 
@@ -11,3 +12,6 @@ pieces-preserved g c = record {
 pub returns-in_default-clause-cut : goal.returns-in_default-clause-cut
 returns-in_default-clause-cut g c =
     FrontGoesOut-short _ _ _ _ _ c.pieces.invariant.gone c.in_default.ensures.given (search rules)
+
+pub returns-clause-sent : goal.returns-clause-sent
+returns-clause-sent g c = grind (arith, common_steps)

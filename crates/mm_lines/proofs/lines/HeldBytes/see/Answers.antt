@@ -1,3 +1,5 @@
+use Rattle.std.proofs.Common.{arith}
+use Rattle.std.proofs.lemmas.Grind.{common_steps}
 use Rattle.mm_lines.proofs.Below.{◌∙◌}
 use Rattle.mm_lines.proofs.ReadingLemmas.{sees_line, sees_front, sees_fault, sees_end, takes_more}
 use Rattle.mm_lines.proofs.lines.HeldBytes.see.Goals as goal
@@ -23,3 +25,6 @@ refills-preserved g c = record {
   takes = takes_more _ _ _ _ _ _ _ _ c.refills.invariant.takes c.look.ensures.same c.in-Ok.ensures.refilled;
   kept = c.in-Ok.ensures.counted.kept ∙ c.refills.invariant.kept;
 }
+
+pub refills-smaller : goal.refills-smaller
+refills-smaller g c = grind (arith, common_steps)

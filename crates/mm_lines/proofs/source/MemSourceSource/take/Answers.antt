@@ -28,3 +28,6 @@ returns-clause-taken c =
       λ none some. ended at count c.self.inside.piece (length c.args.buf.now) content
           c.self.invariant.1 (omega arith) counted none,
     )
+
+pub returns-clause-after : goal.returns-clause-after
+returns-clause-after c = grind (arith, common_steps)
