@@ -241,19 +241,32 @@ impl Chronicle {
             (ChronicleGoes self.old self.new (Commit (batch_of batch.entry) ∷ [])) }
     {
         let mut ran = run_batch(self.alloc, &self.module, self.state.as_slice(), batch)?;
+        self.add(batch, size, &mut ran)
+    }
+
+    // A batch of this size is committed, which ran so.
+    fn add(&mut self, batch: Batch<'_>, size: u64, ran: &mut BatchRun) -> Result<(), Memory>
+        requires short { is_long (batch_of batch) ≡ false }
+        requires size { size ≡ size_of (batch_of batch) }
+        requires fits { total_of self.old.history.batches + size < 2 ^ 64 }
+        requires state { ran.old.state ≡ state_after_batch self.old (batch_of batch) }
+        requires said { ran.old.outputs ≡ outputs_of_batch self.old (batch_of batch) }
+        ensures { OnOk result
+            (ChronicleGoes self.old self.new (Commit (batch_of batch.entry) ∷ [])) }
+    {
         match self.variant {
-            Variant::Basic => self.link(batch, size, &mut ran),
+            Variant::Basic => self.link(batch, size, ran),
             Variant::Opt => {
                 if self.lists.is_open() {
-                    self.grow(batch, size, &mut ran)
+                    self.grow(batch, size, ran)
                 } else {
-                    self.begin_segment(batch, size, &mut ran)
+                    self.begin_segment(batch, size, ran)
                 }
             }
         }
     }
 
-    // Basic: a batch of this size is committed, which ran so.
+    // Basic: likewise.
     fn link(&mut self, batch: Batch<'_>, size: u64, ran: &mut BatchRun) -> Result<(), Memory>
         requires variant { self.old.variant ≡ Basic }
         requires short { is_long (batch_of batch) ≡ false }

@@ -312,9 +312,7 @@ impl Expectation {
         ensures after { IfOk result (IsAfter header.now []) }
     {
         let chronicle = Chronicle::new(alloc, header.variant, header.module)?;
-        let mut expecting = Expectation::over(alloc, chronicle);
-        expecting.issue()?;
-        Ok(expecting)
+        Expectation::over(alloc, chronicle).begun()
     }
 
     // One over a history of which nothing is issued.
@@ -330,6 +328,21 @@ impl Expectation {
             key: SealingKey::new(&world_key()),
             chronicle,
             issued: Vec::new(alloc),
+        }
+    }
+
+    // The same, once the snapshot is issued at which the history stands.
+    fn begun(mut self) -> Result<Expectation, Memory>
+        requires { total_of self.history.batches ≤ last_position }
+        ensures { IfOk result (λ it. it ≡ record self {
+          issued = self.issued
+              ++ issued_bytes (instance_with self.header.variant self.header.«module») self.history
+              ∷ [];
+        }) }
+    {
+        match self.issue() {
+            Ok(()) => Ok(self),
+            Err(memory) => Err(memory),
         }
     }
 
