@@ -1,4 +1,5 @@
-use Rattle.mm_schedule.proofs.Below.{◌≡◌, ◌+◌, ◌<◌, ◌++◌, ℕ, List, OnOk, length, ap, ◌∙◌, option_map, Option, Some, slice_get}
+use Rattle.std.proofs.lemmas.Grind.{common_steps}
+use Rattle.mm_schedule.proofs.Below.{arith, ◌≡◌, ◌+◌, ◌<◌, ◌++◌, ℕ, List, OnOk, length, ap, ◌∙◌, option_map, Option, Some, slice_get}
 use Rattle.mm_schedule.proofs.Below.{lines_of_reply, told_lines, told_line}
 use Rattle.std.proofs.Common.{Result, Ok, Err}
 use Rattle.mm_base.specs.declared.fault.Memory.{Memory}
@@ -24,3 +25,24 @@ returns-in-Told c =
     ∙ ap (λ (output : Option (List ℕ)). option_map (told_line c.in-Told.again (c.in-Told.before + c.args.index + 1)) output)
     c.output_at-output.ensures) in
     with_line c.put_told.result _ _ _ _ at c.put_told.ensures
+
+pub returns-in-No : goal.returns-in-No
+returns-in-No c = grind (arith, common_steps)
+
+pub returns-in-Kept : goal.returns-in-Kept
+returns-in-Kept c = grind (arith, common_steps)
+
+pub returns-in-Nothing : goal.returns-in-Nothing
+returns-in-Nothing c = grind (arith, common_steps)
+
+pub returns-in-Closed : goal.returns-in-Closed
+returns-in-Closed c = grind (arith, common_steps)
+
+pub returns-in-Checkpointed : goal.returns-in-Checkpointed
+returns-in-Checkpointed c = grind (arith, common_steps)
+
+pub returns-in-Power : goal.returns-in-Power
+returns-in-Power c = grind (arith, common_steps)
+
+pub returns-in-Extended : goal.returns-in-Extended
+returns-in-Extended c = grind (arith, common_steps)
