@@ -1,3 +1,5 @@
+use Rattle.std.proofs.Common.{arith}
+use Rattle.std.proofs.lemmas.Grind.{common_steps}
 use Rattle.mm_module.specs.Batch.{members_of}
 use Rattle.mm_module.specs.Batches.{batch_of}
 use Rattle.mm_model.proofs.Members.{ran_on}
@@ -9,3 +11,9 @@ members-preserved g c =
     (members_of (batch_of c.args.batch)) c.members.i c.members.ran.state c.run_next.new.ran.state
     c.members.ran.outputs c.run_next.new.ran.outputs c.request_at.result.now
     c.members.invariant c.request_at.ensures.at c.in_ok-run_next.ensures.state c.in_ok-run_next.ensures.outputs
+
+pub returns-clause-state : goal.returns-clause-state
+returns-clause-state g c = grind (arith, common_steps)
+
+pub returns-clause-outputs : goal.returns-clause-outputs
+returns-clause-outputs g c = grind (arith, common_steps)
