@@ -14,13 +14,13 @@ drop_at xs i m e =
     rw (add-one, drop-cons xs i m) (ap (λ (v : List ℕ). v ∷ drop (suc i) xs) (get_or_from_slice_get xs i m m e))
 
 -- one member more, by what its step gave
-pub ran_on : (meaning : Meaning) → IsLawful meaning → (start : List ℕ) (members : List (List ℕ)) (i : ℕ) (state read next said : List ℕ)
+pub ran_on : (meaning : Meaning) → IsLawful meaning → (start : List ℕ) (members : List (List ℕ)) (i : ℕ) (state next : List ℕ)
     (outputs longer : List (List ℕ)) (m : List ℕ) → IsPartialRun meaning start members i state outputs → slice_get members i ≡ Some m
-    → read ≡ state → next ≡ meaning.next read m → said ≡ meaning.says read m → longer ≡ outputs ++ said ∷ []
+    → next ≡ meaning.next state m → longer ≡ outputs ++ meaning.says state m ∷ []
     → IsPartialRun meaning start members (i + 1) next longer
-ran_on meaning lawful start members i state read next said outputs longer m ran at read_is next_is said_is longer_is =
+ran_on meaning lawful start members i state next outputs longer m ran at next_is longer_is =
     let d : drop i members ≡ m ∷ drop (i + 1) members = drop_at members i m at in
-    rw (longer_is, said_is, next_is, read_is) (record {
+    rw (longer_is, next_is) (record {
       state_is = sym (ap (λ (v : List (List ℕ)). state_from meaning state v) d) ∙ ran.state_is;
       outputs_are = append_assoc outputs (meaning.says state m ∷ []) (outputs_from meaning (meaning.next state m) (drop (i + 1) members))
           ∙ sym (ap (λ (v : List (List ℕ)). outputs ++ outputs_from meaning state v) d) ∙ ran.outputs_are;

@@ -31,7 +31,7 @@ pub enum KeptEntry {
 fn has_tab(text: &[u8]) -> bool
     ensures { result ≡ has_tab text.now }
 {
-    text.iter().any(|byte| *byte == b'\t')
+    text.contains(&b'\t')
 }
 
 /// The batch with these members that its members fix: a text with no TAB is one request.

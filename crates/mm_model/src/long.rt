@@ -25,5 +25,5 @@ pub fn is_long(batch: &Batch<'_>) -> bool
 fn has_lf(text: &[u8]) -> bool
     ensures { result ≡ list_any is_lf text.now }
 {
-    text.iter().any(|byte| *byte == b'\n')
+    text.contains(&b'\n')
 }

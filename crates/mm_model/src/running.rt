@@ -1,6 +1,6 @@
 //! A batch that runs in memory.
 
-ghost use Rattle.std.specs.Prelude.{◌≡◌, ◌<◌, false, IfOk, IsTrue, Some, slice_get};
+ghost use Rattle.std.specs.Prelude.{◌≡◌, ◌<◌, ◌++◌, [], ◌∷◌, false, IfOk, OnOk, IsTrue, Some, slice_get};
 ghost use Rattle.mm_module.specs.Meaning.{IsLine, outputs_from};
 ghost use Rattle.mm_module.specs.MeaningWords.{state_from};
 ghost use Rattle.mm_module.specs.Batch.{members_of, size_of};
@@ -58,12 +58,29 @@ pub fn run_batch_in<M: Module>(
 {
     let mut ran = run_first(alloc, module, state, batch, room)?;
     'members: for i in 1..batch.len() {
-        let request = request_at(batch, i);
-        let Stepped { state, output } = module.step(alloc, ran.state.as_slice(), request)?;
-        ran.state = state;
-        ran.outputs.push(output)?;
+        run_next(alloc, module, &mut ran, request_at(batch, i))?;
     }
     Ok(ran)
+}
+
+// Runs one more member of a batch.
+#[inline(always)]
+fn run_next<M: Module>(
+    alloc: Global,
+    module: &M,
+    ran: &mut BatchRun,
+    request: &[u8],
+) -> Result<(), Memory>
+    requires spelled { IsTrue ((M.meaning «module».now).is_spelled ran.old.state) }
+    requires line { IsLine request.now }
+    ensures state { OnOk result
+        (ran.new.state ≡ (M.meaning «module».now).next ran.old.state request.now) }
+    ensures outputs { OnOk result (ran.new.outputs
+        ≡ ran.old.outputs ++ (M.meaning «module».now).says ran.old.state request.now ∷ []) }
+{
+    let Stepped { state, output } = module.step(alloc, ran.state.as_slice(), request)?;
+    ran.state = state;
+    ran.outputs.push(output)
 }
 
 // Runs the first member of a batch.
@@ -73,7 +90,7 @@ fn run_first<M: Module>(
     module: &M,
     state: &[u8],
     batch: Batch<'_>,
-    room: Bytes,
+    mut room: Bytes,
 ) -> Result<BatchRun, Memory>
     requires spelled { IsTrue ((M.meaning «module».now).is_spelled state.now) }
     requires short { is_long (batch_of batch) ≡ false }
@@ -82,11 +99,10 @@ fn run_first<M: Module>(
         ran.state ran.outputs) }
 {
     let request = request_at(batch, 0);
-    let mut next = room;
-    next.clear();
-    let output = module.step_into(alloc, state, request, &mut next)?;
+    room.clear();
+    let output = module.step_into(alloc, state, request, &mut room)?;
     Ok(BatchRun {
-        state: next,
+        state: room,
         outputs: Outputs::one(alloc, output),
     })
 }

@@ -1,6 +1,6 @@
 //! Requests to a ledger, and what it says.
 
-ghost use Rattle.std.specs.Prelude.{◌≡◌, ◌≤◌, IfOk, option_map};
+ghost use Rattle.std.specs.Prelude.{◌≡◌, ◌≤◌, [], ◌∷◌, IfOk, option_map};
 ghost use Rattle.std.specs.Option.{ForSome};
 ghost use Rattle.mm_module.specs.Words.{words_of};
 ghost use Rattle.mm_quota.specs.Table.{action_of, request_of, decision_of, text_of, IsUsed, greatest_limit};
@@ -72,12 +72,23 @@ pub fn read_request(bytes: &[u8]) -> Option<Request<'_>>
         Words::Two(word, name) if word == b"left".as_slice() && name_is_formed(name) => {
             Some(Request::On(name, QuotaAction::Left))
         }
-        Words::Three(word, name, number) if name_is_formed(name) => {
-            let action = read_action(word, read_decimal(number)?)?;
-            Some(Request::On(name, action))
-        }
+        Words::Three(word, name, number) => read_three(word, name, number),
         _ => None,
     }
+}
+
+/// The request of three words.
+#[tactic(auto, unfolding(crate::specs::Table::request_of))]
+#[inline(always)]
+fn read_three<'a>(word: &[u8], name: &'a [u8], number: &[u8]) -> Option<Request<'a>>
+    ensures { option_map as_request result
+        ≡ request_of (word.now ∷ name.now ∷ number.now ∷ []) }
+{
+    if !name_is_formed(name) {
+        return None;
+    }
+    let action = read_action(word, read_decimal(number)?)?;
+    Some(Request::On(name, action))
 }
 
 /// The account that an action puts, where it puts one, and what is said: from whether the ledger is

@@ -8,7 +8,7 @@ pub use Rattle.std.specs.Str.{all_ascii_digits, bytes_eq}
 pub use Rattle.std.proofs.Common.{◌%◌, ◌*◌, ◌++◌, ◌+◌, ◌-◌, ◌<◌, ◌^◌, ◌∙◌, ◌∷◌, ◌≡◌, ◌≢◌, ◌≤◌, ◌⊎◌, [], add-one, ap, append-nil}
 pub use Rattle.std.proofs.Common.{append_assoc, arith, Bool, cond, drop, false, get_or, inl, inr, length, List, OnOk, refl, subst, suc, sym}
 pub use Rattle.std.proofs.Common.{take, true, zero, ℕ}
-pub use Rattle.std.proofs.Math.Seq.{drop-append-add, drop-cons, take-append-add, take-append_seam}
+pub use Rattle.std.proofs.Math.Seq.{drop-append-add, drop-cons, take-append_seam}
 pub use Rattle.std.proofs.lemmas.Bool.Decides.{nat_tests}
 pub use Rattle.std.proofs.lemmas.Fmt.{decimal_digit, digits_decimal}
 pub use Rattle.std.proofs.lemmas.List.{length-append, take-append-drop}

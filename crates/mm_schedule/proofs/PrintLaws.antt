@@ -1,11 +1,6 @@
--- Pieces put one behind another, and the lines of a batch.
-use Rattle.mm_schedule.proofs.Below.{◌≡◌, ◌+◌, ◌<◌, ℕ, zero, suc, Bool, List, [], ◌∷◌, ◌++◌, length, take, refl, ap, ◌∙◌, arith}
-use Rattle.mm_schedule.proofs.Below.{take-append-add, take-append_seam, option_map, Some, None, slice_get, told_lines, told_line}
-
-pub put-behind : (front piece rest : List ℕ) (at : ℕ) → length front ≡ at
-    → take (at + length piece) (front ++ (piece ++ rest)) ≡ front ++ piece
-put-behind front piece rest at is =
-    rw (← is) (take-append-add front (piece ++ rest) (length piece) ∙ ap (λ (back : List ℕ). front ++ back) (take-append_seam piece rest))
+-- The lines of a batch.
+use Rattle.mm_schedule.proofs.Below.{◌≡◌, ◌+◌, ◌<◌, ℕ, zero, suc, Bool, List, [], ◌∷◌, length, refl, ap, ◌∙◌, arith}
+use Rattle.mm_schedule.proofs.Below.{option_map, Some, None, slice_get, told_lines, told_line}
 
 -- a line for each output
 pub length-told_lines : (again : Bool) (before : ℕ) (outputs : List (List ℕ)) → length (told_lines again before outputs) ≡ length outputs

@@ -51,8 +51,7 @@ impl Meddles {
     pub fn listed(&self) -> &[Meddle]
         ensures { result.now ≡ meddles_of self.now }
     {
-        let (front, _) = self.items.split_at(self.count as usize);
-        front
+        &self.items[..self.count as usize]
     }
 
     /// Puts one more at the end.

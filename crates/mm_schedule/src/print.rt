@@ -8,6 +8,7 @@ ghost use Rattle.mm_schedule.specs.RepliesWords.{told_line, told_text};
 
 use crate::reply::{Reply, Way};
 use itoa::Buffer;
+use mm_module::Outputs;
 
 /// The number of a reply's lines: one for each request of a batch that is told, else one.
 pub fn reply_lines(reply: &Reply) -> usize
@@ -32,10 +33,10 @@ pub fn print_line(reply: &Reply, index: usize, into: &mut [u8; 4200]) -> usize
             again,
             before,
             outputs,
-        } => match outputs.get(index) {
-            Some(output) => print_told(*again, *before + index as u64 + 1, output, into),
-            None => unreachable!(),
-        },
+        } => {
+            let output = output_at(outputs, index);
+            print_told(*again, *before + index as u64 + 1, output, into)
+        }
         Reply::No(cause) => print_words(b"no ", cause.text(), into),
         Reply::Kept { way, position } => print_kept(*way, *position, into),
         Reply::Nothing { way } => print_words(way.text(), b" lost", into),
@@ -43,6 +44,18 @@ pub fn print_line(reply: &Reply, index: usize, into: &mut [u8; 4200]) -> usize
         Reply::Checkpointed => print_words(b"checkpointed", b"", into),
         Reply::Power => print_words(b"power", b"", into),
         Reply::Extended => print_words(b"extended", b"", into),
+    }
+}
+
+/// The output that a line of a batch tells.
+#[inline(always)]
+pub(crate) fn output_at(outputs: &Outputs, index: usize) -> &[u8]
+    requires { index < length outputs.now }
+    ensures { slice_get outputs.now index ≡ Some result.now }
+{
+    match outputs.get(index) {
+        Some(output) => output,
+        None => unreachable!(),
     }
 }
 
@@ -107,8 +120,7 @@ fn put(into: &mut [u8; 4200], at: usize, piece: &[u8]) -> usize
     ensures end { result ≡ at + length piece.now }
     ensures text { take result into.new ≡ take at into.old ++ piece.now }
 {
-    let (_, behind) = into.split_at_mut(at);
-    let (place, _) = behind.split_at_mut(piece.len());
-    place.copy_from_slice(piece);
-    at + piece.len()
+    let end = at + piece.len();
+    into[at..end].copy_from_slice(piece);
+    end
 }

@@ -5,9 +5,9 @@ ghost use Rattle.std.specs.Fmt.{decimal};
 ghost use Rattle.mm_schedule.specs.Replies.{end_line, IsPrintable, lines_of_reply, way_text};
 ghost use Rattle.mm_schedule.specs.RepliesWords.{told_line};
 
-use crate::print::told_word;
+use crate::print::{output_at, told_word};
 use crate::reply::{Reply, Way};
-use mm_base::{Bytes, Memory, put_decimal, put_numbered};
+use mm_base::{Bytes, Memory, put_numbered};
 
 /// Puts one line of a reply with its LF at the end.
 #[inline(always)]
@@ -23,10 +23,10 @@ pub fn put_line(reply: &Reply, index: usize, into: &mut Bytes) -> Result<(), Mem
             again,
             before,
             outputs,
-        } => match outputs.get(index) {
-            Some(output) => put_told(*again, *before + index as u64 + 1, output, into),
-            None => unreachable!(),
-        },
+        } => {
+            let output = output_at(outputs, index);
+            put_told(*again, *before + index as u64 + 1, output, into)
+        }
         Reply::No(cause) => put_words(b"no ", cause.text(), into),
         Reply::Kept { way, position } => put_kept(*way, *position, into),
         Reply::Nothing { way } => put_words(way.text(), b" lost", into),
@@ -70,8 +70,7 @@ fn put_kept(way: Way, position: u64, into: &mut Bytes) -> Result<(), Memory>
 fn put_told(again: bool, position: u64, output: &[u8], into: &mut Bytes) -> Result<(), Memory>
     ensures { OnOk result (into.new ≡ into.old ++ told_line again position output.now) }
 {
-    into.append(told_word(again))?;
-    put_decimal(into, position)?;
+    put_numbered(into, told_word(again), position)?;
     into.push(b' ')?;
     into.append(output)?;
     into.push(b'\n')

@@ -11,7 +11,6 @@ use crate::text::{event_in, owned};
 use std::alloc::Global;
 
 /// The event of a line, which stands without its LF.
-#[tactic(auto, using(crate::proofs::ReadIsSpelled::event_spelled))]
 pub fn read_event(alloc: Global, line: &[u8]) -> Result<Event, EventFault>
     ensures spelled { IfOk result (λ event. SpellsEvent (event_of event) line.now) }
     ensures read { IfOk result (λ event. event_at line.now ≡ Some (event_of event)) }

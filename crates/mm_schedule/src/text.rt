@@ -6,7 +6,7 @@ ghost use Rattle.mm_platform.specs.declared.plan.Meddle.{Meddle};
 ghost use Rattle.mm_schedule.specs.declared.fault.EventFault.{EventFault};
 ghost use Rattle.mm_schedule.specs.Events.{event_of, meddles_of};
 ghost use Rattle.mm_schedule.specs.Grammar.{call_at, event_at, fail_stop_at, meddle_at, meddles_at, offer_at, prefixed_call_at, raw_offer_at, stop_at, stop_step_at};
-ghost use Rattle.mm_schedule.specs.GrammarWords.{ask_at, flip_at};
+ghost use Rattle.mm_schedule.specs.GrammarWords.{ask_at, cut_at, drop_at, flip_at};
 ghost use Rattle.mm_schedule.specs.Texts as texts;
 ghost use Rattle.mm_schedule.specs.Words.{bytes_at};
 
@@ -174,17 +174,31 @@ pub fn stop_in(line: &[u8]) -> Option<(Stop, &[u8])>
     ensures { option_map (λ (x : _). (x.0, x.1.now)) result ≡ stop_at line.now }
 {
     if let Some(line) = after(b"cut ", line) {
-        let (step, line) = first_step_in(line)?;
-        return Some((Stop::Cut(step), line));
+        return cut_in(line);
     }
     if let Some(line) = after(b"drop ", line) {
-        let (step, line) = first_step_in(line)?;
-        return Some((Stop::Drop(step), line));
+        return drop_in(line);
     }
     if let Some(line) = after(b"fail ", line) {
         return failing_in(line);
     }
     Some((Stop::Quiet, line))
+}
+
+/// A step behind `cut`.
+fn cut_in(line: &[u8]) -> Option<(Stop, &[u8])>
+    ensures { option_map (λ (x : _). (x.0, x.1.now)) result ≡ cut_at line.now }
+{
+    let (step, line) = first_step_in(line)?;
+    Some((Stop::Cut(step), line))
+}
+
+/// A step behind `drop`.
+fn drop_in(line: &[u8]) -> Option<(Stop, &[u8])>
+    ensures { option_map (λ (x : _). (x.0, x.1.now)) result ≡ drop_at line.now }
+{
+    let (step, line) = first_step_in(line)?;
+    Some((Stop::Drop(step), line))
 }
 
 /// The step that a line begins with, and what follows the space behind it.

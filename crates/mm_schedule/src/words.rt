@@ -75,7 +75,7 @@ pub fn value_in(word: &[u8]) -> Option<Digest>
 fn are_digits(word: &[u8]) -> bool
     ensures { result ≡ list_all is_hex_digit word.now }
 {
-    word.iter().all(|byte| byte.is_ascii_hexdigit())
+    word.iter().all(u8::is_ascii_hexdigit)
 }
 
 /// Whether the word stands for bytes: `-` for none, or two hexadecimal digits for each.

@@ -70,9 +70,7 @@ pub fn with_summary(bytes: &[u8; CELL_LENGTH], summary: &Digest) -> [u8; CELL_LE
     ensures { IsSpelledWith summary.now bytes.now result }
 {
     let mut next = *bytes;
-    let (_, behind) = next.split_at_mut(8);
-    let (field, _) = behind.split_at_mut(32);
-    field.copy_from_slice(&summary.bytes);
+    next[8..40].copy_from_slice(&summary.bytes);
     next
 }
 
@@ -125,8 +123,7 @@ fn is_spelled(cell: &Cell, bytes: &[u8; CELL_LENGTH]) -> bool
     requires { cell.now ≡ cell_at cell.now.variant bytes.now }
     ensures { IsTrue result ↔ (bytes.now ≡ cell_spelling cell.now) }
 {
-    let (head, _) = bytes.split_at(8);
-    head == head_of(cell).as_slice()
+    &bytes[..8] == head_of(cell).as_slice()
 }
 
 // The bytes before the summary.

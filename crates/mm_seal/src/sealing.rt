@@ -2,7 +2,7 @@
 
 ghost use Rattle.std.specs.Prelude.{◌≡◌, IfSome, IsSome};
 
-use crate::snapshot::{Body, Offered, front};
+use crate::snapshot::{Body, Offered, front, with_tag};
 use mm_base::{Bytes, Memory};
 use mm_digest::{Digest, HmacKey};
 use std::alloc::Global;
@@ -44,7 +44,7 @@ impl Model for SealingKey {
 }
 
 impl SealingKey {
-    ghost use Rattle.std.specs.Prelude.{◌≡◌, ◌≤◌, ◌↔◌, [], IsTrue, IfOk, IfSome, length};
+    ghost use Rattle.std.specs.Prelude.{◌≡◌, ◌≤◌, ◌↔◌, [], ◌++◌, IsTrue, IfOk, IfSome, length};
     ghost use Rattle.mm_base.specs.Limits.{last_position, limit_of};
     ghost use Rattle.mm_digest.specs.Hmac.{hmac_of};
     ghost use Rattle.mm_seal.specs.Body.{content_of};
@@ -162,13 +162,9 @@ impl SealingKey {
             (λ bytes. bytes ≡ sealed_snapshot_of self.old (content_of body.now)) }
         ensures same { self.new ≡ self.old }
     {
-        let mut bytes = front(alloc, body)?;
-        let tag = match self.remembered(bytes.as_slice()) {
-            Some(tag) => tag,
-            None => self.tag_kept(alloc, bytes.as_slice()),
-        };
-        bytes.append(&tag.bytes)?;
-        Ok(bytes)
+        let text = front(alloc, body)?;
+        let remembered = self.remembered(text.as_slice());
+        self.tagged(alloc, text, remembered)
     }
 
     /// The same, of a content that was seldom sealed before: of what is remembered it is sought in
@@ -182,13 +178,29 @@ impl SealingKey {
             (λ bytes. bytes ≡ sealed_snapshot_of self.old (content_of body.now)) }
         ensures same { self.new ≡ self.old }
     {
-        let mut bytes = front(alloc, body)?;
-        let tag = match tag_in(self.last(), bytes.as_slice()) {
+        let text = front(alloc, body)?;
+        let remembered = tag_in(self.last(), text.as_slice());
+        self.tagged(alloc, text, remembered)
+    }
+
+    // A text with its tag behind it: the one that is remembered, or one that is computed, and
+    // remembered from then on.
+    #[inline(always)]
+    fn tagged(
+        &mut self,
+        alloc: Global,
+        text: Bytes,
+        remembered: Option<Digest>,
+    ) -> Result<Bytes, Memory>
+        requires { IfSome remembered (λ tag. tag.bytes ≡ hmac_of self.old text) }
+        ensures sealed { IfOk result (λ bytes. bytes ≡ text ++ hmac_of self.old text) }
+        ensures same { self.new ≡ self.old }
+    {
+        let tag = match remembered {
             Some(tag) => tag,
-            None => self.tag_kept(alloc, bytes.as_slice()),
+            None => self.tag_kept(alloc, text.as_slice()),
         };
-        bytes.append(&tag.bytes)?;
-        Ok(bytes)
+        with_tag(text, &tag)
     }
 
     // The tag of a text.

@@ -147,10 +147,18 @@ pub fn seal_under(alloc: Global, key: &SealingKey, body: &Body<'_>) -> Result<By
     requires state { length body.now.state.now ≤ limit_of body.now.module }
     ensures { IfOk result (λ bytes. bytes ≡ sealed_snapshot_of key.now (content_of body.now)) }
 {
-    let mut bytes = front(alloc, body)?;
-    let tag = key.tag(bytes.as_slice());
-    bytes.append(&tag.bytes)?;
-    Ok(bytes)
+    let text = front(alloc, body)?;
+    let tag = key.tag(text.as_slice());
+    with_tag(text, &tag)
+}
+
+// The text with this tag behind it.
+#[inline(always)]
+pub(crate) fn with_tag(mut text: Bytes, tag: &Digest) -> Result<Bytes, Memory>
+    ensures { IfOk result (λ bytes. bytes ≡ text ++ tag.now.bytes) }
+{
+    text.append(&tag.bytes)?;
+    Ok(text)
 }
 
 // What is signed of the body's snapshot, with memory for the whole.
@@ -184,8 +192,7 @@ fn put_front(bytes: &mut Bytes, body: &Body<'_>) -> Result<(), Memory>
     put_place(bytes, &body.place)?;
     bytes.append(&bytes_of_u64(body.position))?;
     bytes.append(&bytes_of_u32(body.state.len() as u32))?;
-    bytes.append(body.state)?;
-    Ok(())
+    bytes.append(body.state)
 }
 
 // Puts the place at the end.
