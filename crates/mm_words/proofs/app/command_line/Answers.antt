@@ -1,15 +1,13 @@
-use Rattle.mm_words.proofs.Below.{◌∙◌, ap, codes, generating_app, key_app, with_host_forms}
-use Rattle.std.proofs.lemmas.Result.{IfOk-weaker}
+use Rattle.mm_words.proofs.Below.{◌∙◌, App, app_of, ap, arith}
+use Rattle.mm_words.proofs.Folded.{folded_next}
+use Rattle.clap.specs.Words.{with_subcommand}
+use Rattle.mm_words.specs.App.{form_app, top_app}
+use Rattle.mm_words.specs.declared.app.Form.{Form}
 use Rattle.mm_words.proofs.app.command_line.Goals as goal
 
-pub returns : goal.returns
-returns c =
-    let host =
-    IfOk-weaker c.host_forms-line.result _ _ (λ line told. told ∙ ap with_host_forms c.top.ensures.app) c.host_forms-line.ensures in
-    let replay = c.with_bare_form-line.ensures _ host in
-    let check = c.with_bare_form-line-2.ensures _ replay in
-    let gen = c.with_form-line.ensures _ (generating_app (codes "gen")) check c.generating.ensures in
-    let bulk = c.with_form-line-2.ensures _ (generating_app (codes "bulk")) gen c.generating-2.ensures in
-    let slots = c.with_bare_form-line-3.ensures _ bulk in
-    let receipts = c.with_form-line-3.ensures _ (key_app (codes "receipts")) slots c.with_key.ensures in
-    c.with_bare_form.ensures _ receipts
+pub forms-preserved : goal.forms-preserved
+forms-preserved c =
+    let form = c.in_ok-subcommand.ensures in
+    folded_next (λ (app : App) (form : Form). with_subcommand app (form_app form).top) top_app _ c.forms.form-index _
+    (app_of c.forms.line) _ c.forms.invariant
+    (c.in_ok-line.ensures.shape form.local ∙ ap (λ (app : App). with_subcommand (app_of c.forms.line) app.top) form.told) (omega arith)
