@@ -27,7 +27,7 @@ with_words = fold (λ app id. with_rule app (wanted_rule id.now))
 
 -- the subcommand of a form
 abbrev pub form_app : Form → App
-form_app form = with_words (new_app form.name.now) form.words.now
+form_app form = with_words (new_app form.0.now) form.1.now
 
 -- a command with the subcommands of these forms
 abbrev pub with_forms : App → List Form → App

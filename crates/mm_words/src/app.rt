@@ -8,57 +8,21 @@ use clap::{Arg, ArgAction, Command};
 use std::alloc::{AllocError, Global};
 
 /// A form of words: its subcommand, and the words behind it.
-struct Form {
-    name: &'static str,
-    words: &'static [&'static str],
-}
+struct Form(&'static str, &'static [&'static str]);
 
 /// All forms of words but `--help`: a form is added here, with its subcommand.
 const FORMS: [Form; 11] = [
-    Form {
-        name: "init",
-        words: &["VARIANT", "MODULE"],
-    },
-    Form {
-        name: "run",
-        words: &[],
-    },
-    Form {
-        name: "checkpoint",
-        words: &[],
-    },
-    Form {
-        name: "power",
-        words: &[],
-    },
-    Form {
-        name: "replay",
-        words: &[],
-    },
-    Form {
-        name: "check",
-        words: &[],
-    },
-    Form {
-        name: "gen",
-        words: &["NUMBER", "COUNT", "VARIANT", "MODULE"],
-    },
-    Form {
-        name: "bulk",
-        words: &["NUMBER", "COUNT", "VARIANT", "MODULE"],
-    },
-    Form {
-        name: "slots",
-        words: &[],
-    },
-    Form {
-        name: "receipts",
-        words: &["KEY"],
-    },
-    Form {
-        name: "transfer",
-        words: &[],
-    },
+    Form("init", &["VARIANT", "MODULE"]),
+    Form("run", &[]),
+    Form("checkpoint", &[]),
+    Form("power", &[]),
+    Form("replay", &[]),
+    Form("check", &[]),
+    Form("gen", &["NUMBER", "COUNT", "VARIANT", "MODULE"]),
+    Form("bulk", &["NUMBER", "COUNT", "VARIANT", "MODULE"]),
+    Form("slots", &[]),
+    Form("receipts", &["KEY"]),
+    Form("transfer", &[]),
 ];
 
 /// The command with a subcommand for each form of words.
@@ -88,8 +52,8 @@ fn top<'a>(alloc: Global) -> Command<'a>
 fn subcommand<'a>(alloc: Global, form: &Form) -> Result<Command<'a>, AllocError>
     ensures { IfOk result (IsForm (form_app form.now)) }
 {
-    let mut command = Command::new(alloc, form.name);
-    'words: for id in form.words {
+    let mut command = Command::new(alloc, form.0);
+    'words: for id in form.1 {
         command = command.arg(wanted(alloc, id))?;
     }
     Ok(command)

@@ -5,4 +5,4 @@ use Rattle.mm_words.proofs.app.subcommand.Given as goal
 
 -- the words so far were added
 abbrev pub invariant-words : goal.invariant-words
-invariant-words l = IsForm (with_words (new_app l.form.name.now) (take l.id-index l.form.words.now)) l.command
+invariant-words l = IsForm (with_words (new_app l.form.0.now) (take l.id-index l.form.1.now)) l.command
