@@ -2,7 +2,7 @@
 
 ghost use Rattle.std.specs.Prelude.{◌≡◌, false, IfOk};
 ghost use Rattle.clap.specs.Words.{app_of, rule_of};
-ghost use Rattle.mm_words.specs.App.{IsForm, form_app, has_globals, the_app, top_app, wanted_rule};
+ghost use Rattle.mm_words.specs.App.{IsForm, form_app, has_globals, the_app, top_app, wanted_rule, with_forms};
 
 use clap::{Arg, ArgAction, Command};
 use std::alloc::{AllocError, Global};
@@ -29,11 +29,22 @@ const FORMS: [Form; 11] = [
 pub fn command_line<'a>(alloc: Global) -> Result<Command<'a>, AllocError>
     ensures { IfOk result (λ line. app_of line ≡ the_app) }
 {
-    let mut line = top(alloc);
-    'forms: for form in &FORMS {
-        line = line.subcommand(subcommand(alloc, form)?)?;
+    with_forms(alloc, top(alloc), &FORMS)
+}
+
+/// A command with a subcommand more for each of these forms.
+fn with_forms<'a>(
+    alloc: Global,
+    line: Command<'a>,
+    forms: &[Form],
+) -> Result<Command<'a>, AllocError>
+    ensures { IfOk result (λ whole. app_of whole ≡ with_forms (app_of line.entry) forms.now) }
+{
+    let mut whole = line;
+    'forms: for form in forms {
+        whole = whole.subcommand(subcommand(alloc, form)?)?;
     }
-    Ok(line)
+    Ok(whole)
 }
 
 /// The command that the subcommands are added to. It answers no call for help.
