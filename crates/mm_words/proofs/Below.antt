@@ -5,7 +5,7 @@ pub use Rattle.std.specs.List.{AllPass, list_any}
 pub use Rattle.std.specs.Option.{option_map_or}
 pub use Rattle.std.specs.Prelude.{◌==◌, ◌||◌, ◌↔◌, Err, if◌then◌else◌, IsTrue, map, nat_lt, None, Ok, Option, option_map, Result, Some}
 pub use Rattle.std.specs.Str.{all_ascii_digits, bytes_eq}
-pub use Rattle.std.proofs.Common.{◌<◌, ◌^◌, ◌∙◌, ◌∷◌, ◌≡◌, ◌≤◌, [], ap, arith, Bool, codes, false, get_or, length, List, refl, subst, sym}
+pub use Rattle.std.proofs.Common.{◌+◌, ◌<◌, ◌^◌, ◌∙◌, ◌∷◌, ◌≡◌, ◌≤◌, [], ap, arith, Bool, codes, false, get_or, length, List, refl, subst, sym}
 pub use Rattle.std.proofs.Common.{true, ℕ}
 pub use Rattle.std.proofs.lemmas.Bool.Decides.{nat_tests}
 pub use Rattle.std.proofs.lemmas.Slice.Eq.{bytes_eq-Decides}
@@ -25,7 +25,7 @@ pub use Rattle.mm_modules.specs.declared.any.AnyModule.{AnyModule}
 pub use Rattle.mm_schedule.specs.Headers.{variant_text}
 pub use Rattle.mm_schedule.specs.HeadersWords.{variant_at}
 pub use Rattle.mm_schedule.specs.declared.header.Header.{Header}
-pub use Rattle.mm_words.specs.App.{generating_app, header_app, key_app, the_app, with_host_forms}
+pub use Rattle.mm_words.specs.App.{the_app}
 pub use Rattle.mm_words.specs.Commands.{AreReceiptsWords, AreWordsOf, generated_words, header_words, IsGenerated, SpellsCommand}
 pub use Rattle.mm_words.specs.Forms.{is_refused, IsMatched}
 pub use Rattle.mm_words.specs.declared.command.CommandLine.{CommandLine}

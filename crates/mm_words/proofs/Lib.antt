@@ -1,5 +1,6 @@
 pub mod Above
 mod Below
+mod Folded
 mod Kept
 mod Matched
 mod OneCommand

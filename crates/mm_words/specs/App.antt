@@ -1,10 +1,12 @@
 -- The command line as `clap` is told of it: a command with one level of subcommands.
-use Rattle.std.specs.Prelude.{◌≡◌, ℕ, Bool, true, false, Some, List, codes}
+use Rattle.std.specs.Borrow.{Bor}
+use Rattle.std.specs.Prelude.{◌≡◌, ℕ, Bool, true, false, Some, List, codes, fold}
 use Rattle.clap.specs.Simple.{App, app_of, new_app, new_rule, on_top, with_rule, with_subcommand}
 use Rattle.clap.specs.Walk.{Rule}
 use Rattle.clap.specs.declared.builder.command.Command.{Command}
 use Rattle.clap.specs.declared.builder.command.Command.TheViews.{out-Command}
 use Rattle.clap.specs.declared.builder.action.ArgAction.TheVariants.{Set}
+use Rattle.mm_words.specs.declared.app.Form.{Form}
 
 -- whether an argument is for the subcommands too
 abbrev pub has_globals : Command → Bool
@@ -18,6 +20,18 @@ pub record IsForm (app : App) (command : Command) : Type 0 where
 -- a word that has to stand there
 abbrev pub wanted_rule : List ℕ → Rule
 wanted_rule id = record (new_rule id) { required = true; action = Some Set }
+
+-- a subcommand with these words
+abbrev pub with_words : App → List (Bor (List ℕ)) → App
+with_words = fold (λ app id. with_rule app (wanted_rule id.now))
+
+-- the subcommand of a form
+abbrev pub form_app : Form → App
+form_app form = with_words (new_app form.0.now) form.1.now
+
+-- a command with the subcommands of these forms
+abbrev pub with_forms : App → List Form → App
+with_forms = fold (λ app form. with_subcommand app (form_app form).top)
 
 -- a subcommand with a variant and a module
 abbrev pub header_app : List ℕ → App

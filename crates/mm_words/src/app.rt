@@ -1,65 +1,55 @@
 //! The command line as `clap` is told of it.
 
 ghost use Rattle.std.specs.Prelude.{◌≡◌, false, IfOk};
-ghost use Rattle.clap.specs.Words.{App, app_of, new_app, rule_of, with_rule, with_subcommand};
-ghost use Rattle.mm_words.specs.App.{IsForm, generating_app, has_globals, header_app, key_app, the_app, top_app, wanted_rule, with_host_forms};
+ghost use Rattle.clap.specs.Words.{app_of, rule_of};
+ghost use Rattle.mm_words.specs.App.{IsForm, form_app, has_globals, the_app, top_app, wanted_rule, with_forms};
 
 use clap::{Arg, ArgAction, Command};
 use std::alloc::{AllocError, Global};
 
+/// A form of words: its subcommand, and the words behind it.
+struct Form(&'static str, &'static [&'static str]);
+
 /// All forms of words but `--help`: a form is added here, with its subcommand.
+const FORMS: [Form; 11] = [
+    Form("init", &["VARIANT", "MODULE"]),
+    Form("run", &[]),
+    Form("checkpoint", &[]),
+    Form("power", &[]),
+    Form("replay", &[]),
+    Form("check", &[]),
+    Form("gen", &["NUMBER", "COUNT", "VARIANT", "MODULE"]),
+    Form("bulk", &["NUMBER", "COUNT", "VARIANT", "MODULE"]),
+    Form("slots", &[]),
+    Form("receipts", &["KEY"]),
+    Form("transfer", &[]),
+];
+
+/// The command with a subcommand for each form of words.
 pub fn command_line<'a>(alloc: Global) -> Result<Command<'a>, AllocError>
     ensures { IfOk result (λ line. app_of line ≡ the_app) }
 {
-    let line = host_forms(alloc, top(alloc));
-    let line = with_bare_form(alloc, line, "replay");
-    let line = with_bare_form(alloc, line, "check");
-    let line = with_form(line, generating(alloc, "gen"));
-    let line = with_form(line, generating(alloc, "bulk"));
-    let line = with_bare_form(alloc, line, "slots");
-    let line = with_form(line, with_key(alloc, "receipts"));
-    with_bare_form(alloc, line, "transfer")
+    with_forms(alloc, top(alloc), &FORMS)
 }
 
-/// The forms that run the module on the platform.
-fn host_forms<'a>(alloc: Global, line: Command<'a>) -> Result<Command<'a>, AllocError>
-    ensures { IfOk result (λ whole. app_of whole ≡ with_host_forms (app_of line.entry)) }
-{
-    let line = with_form(Ok(line), with_header(alloc, "init"));
-    let line = with_bare_form(alloc, line, "run");
-    let line = with_bare_form(alloc, line, "checkpoint");
-    with_bare_form(alloc, line, "power")
-}
-
-/// A command with one more form, if memory was enough for both.
-fn with_form<'a>(
-    line: Result<Command<'a>, AllocError>,
-    form: Result<Command<'a>, AllocError>,
-) -> Result<Command<'a>, AllocError>
-    ensures { (whole part : App) → IfOk line.entry (λ command. app_of command ≡ whole)
-        → IfOk form.entry (IsForm part)
-        → IfOk result (λ command. app_of command ≡ with_subcommand whole part.top) }
-{
-    line?.subcommand(form?)
-}
-
-/// A command with one more form that has no words of its own, if memory was enough for both.
-fn with_bare_form<'a>(
+/// A command with a subcommand more for each of these forms.
+fn with_forms<'a>(
     alloc: Global,
-    line: Result<Command<'a>, AllocError>,
-    name: &'a str,
+    line: Command<'a>,
+    forms: &[Form],
 ) -> Result<Command<'a>, AllocError>
-    ensures { (whole : App) → IfOk line.entry (λ command. app_of command ≡ whole)
-        → IfOk result (λ command. app_of command
-        ≡ with_subcommand whole (new_app name.entry.now).top) }
+    ensures { IfOk result (λ whole. app_of whole ≡ with_forms (app_of line.entry) forms.now) }
 {
-    line?.subcommand(Command::new(alloc, name))
+    let mut whole = line;
+    'forms: for form in forms {
+        whole = whole.subcommand(subcommand(alloc, form)?)?;
+    }
+    Ok(whole)
 }
 
 /// The command that the subcommands are added to. It answers no call for help.
 fn top<'a>(alloc: Global) -> Command<'a>
-    ensures app { app_of result ≡ top_app }
-    ensures local { has_globals result ≡ false }
+    ensures { app_of result ≡ top_app }
 {
     Command::new(alloc, "memoir")
         .no_binary_name(true)
@@ -69,48 +59,15 @@ fn top<'a>(alloc: Global) -> Command<'a>
         .disable_version_flag(true)
 }
 
-/// A subcommand with no words of its own.
-fn bare<'a>(alloc: Global, name: &'a str) -> Result<Command<'a>, AllocError>
-    ensures { IfOk result (IsForm (new_app name.entry.now)) }
+/// The subcommand of a form, with its words.
+fn subcommand<'a>(alloc: Global, form: &Form) -> Result<Command<'a>, AllocError>
+    ensures { IfOk result (IsForm (form_app form.now)) }
 {
-    Ok(Command::new(alloc, name))
-}
-
-/// A subcommand with a variant and a module.
-fn with_header<'a>(alloc: Global, name: &'a str) -> Result<Command<'a>, AllocError>
-    ensures { IfOk result (IsForm (header_app name.entry.now)) }
-{
-    let command = with_word(alloc, bare(alloc, name), "VARIANT");
-    with_word(alloc, command, "MODULE")
-}
-
-/// A subcommand with the four words of a generated schedule.
-fn generating<'a>(alloc: Global, name: &'a str) -> Result<Command<'a>, AllocError>
-    ensures { IfOk result (IsForm (generating_app name.entry.now)) }
-{
-    let command = with_word(alloc, bare(alloc, name), "NUMBER");
-    let command = with_word(alloc, command, "COUNT");
-    let command = with_word(alloc, command, "VARIANT");
-    with_word(alloc, command, "MODULE")
-}
-
-/// A subcommand with a key.
-fn with_key<'a>(alloc: Global, name: &'a str) -> Result<Command<'a>, AllocError>
-    ensures { IfOk result (IsForm (key_app name.entry.now)) }
-{
-    with_word(alloc, bare(alloc, name), "KEY")
-}
-
-/// A command with one more word of its own, if memory was enough for both.
-fn with_word<'a>(
-    alloc: Global,
-    command: Result<Command<'a>, AllocError>,
-    id: &'a str,
-) -> Result<Command<'a>, AllocError>
-    ensures { (app : App) → IfOk command.entry (IsForm app)
-        → IfOk result (IsForm (with_rule app (wanted_rule id.entry.now))) }
-{
-    command?.arg(wanted(alloc, id))
+    let mut command = Command::new(alloc, form.0);
+    'words: for id in form.1 {
+        command = command.arg(wanted(alloc, id))?;
+    }
+    Ok(command)
 }
 
 /// A word that has to stand there.
