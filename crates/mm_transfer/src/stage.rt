@@ -34,9 +34,12 @@ impl Model for TransferStage {
 }
 
 impl TransferStage {
+    ghost use Rattle.std.specs.Prelude.{ℕ, List, Some};
+    ghost use Rattle.mm_play.specs.Stage.{EventLacksMemory, StageAnswersEvent, answer_to};
     ghost use Rattle.mm_transfer.specs.Events.{side_event_of};
+    ghost use Rattle.mm_transfer.specs.Grammar.{event_at};
     ghost use Rattle.mm_transfer.specs.Replies.{move_reply_of, IsSayable};
-    ghost use Rattle.mm_transfer.specs.Stage.{TransferLacksMemory, transfer_after, first_transfer, both_end_line, transfer_outcome};
+    ghost use Rattle.mm_transfer.specs.Stage.{TransferLacksMemory, transfer_after, transfer_steps, first_transfer, both_end_line, transfer_outcome};
 
     /// Both sides at their first event.
     pub fn new(alloc: Global, header: &Header) -> Result<TransferStage, Memory>
@@ -59,6 +62,26 @@ impl TransferStage {
         let reply = self.sides.event(alloc, event)?;
         self.events += 1;
         Ok(reply)
+    }
+
+    // Follows the event of a line on its side, and answers it as text.
+    fn follow(&mut self, alloc: Global, event: &SideEvent) -> Result<Bytes, ReplyFault>
+        requires { self.old.events < most_events }
+        ensures { (line : List ℕ) → event_at line ≡ Some (side_event_of event.now)
+            → StageAnswersEvent
+            (EventLacksMemory transfer_steps TransferLacksMemory self.old line self.new)
+            (answer_to transfer_steps self.old line) self.old self.new result }
+    {
+        match self.event(alloc, event) {
+            Err(_) => Err(ReplyFault::Memory),
+            Ok(reply) => {
+                let mut text = Bytes::new(alloc);
+                match put_answer(event.which, &reply, &mut text) {
+                    Ok(()) => Ok(text),
+                    Err(_) => Err(ReplyFault::Memory),
+                }
+            }
+        }
     }
 
     /// Puts the last line at the end.
@@ -118,19 +141,10 @@ impl PlayStage for TransferStage {
     }
 
     fn play(&mut self, alloc: Global, line: &[u8]) -> Result<Bytes, ReplyFault> {
-        let event = match read_side_event(alloc, line) {
-            Ok(event) => event,
-            Err(EventFault::Memory) => return Err(ReplyFault::Memory),
-            Err(EventFault::Bad) => return Err(ReplyFault::Refused(LineRefusal::Bad)),
-        };
-        let reply = match self.event(alloc, &event) {
-            Ok(reply) => reply,
-            Err(_) => return Err(ReplyFault::Memory),
-        };
-        let mut text = Bytes::new(alloc);
-        match put_answer(event.which, &reply, &mut text) {
-            Ok(()) => Ok(text),
-            Err(_) => Err(ReplyFault::Memory),
+        match read_side_event(alloc, line) {
+            Ok(event) => self.follow(alloc, &event),
+            Err(EventFault::Memory) => Err(ReplyFault::Memory),
+            Err(EventFault::Bad) => Err(ReplyFault::Refused(LineRefusal::Bad)),
         }
     }
 

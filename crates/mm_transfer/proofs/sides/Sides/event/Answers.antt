@@ -1,3 +1,5 @@
+use Rattle.std.proofs.Common.{arith}
+use Rattle.std.proofs.lemmas.Grind.{common_steps}
 use Rattle.mm_transfer.proofs.Below.{◌≡◌, ◌∙◌, ℕ, ap, Digests, BothSides, Inside, both_with, side_event_of, side_in}
 use Rattle.mm_transfer.proofs.Acting.{Comes, event_first, event_second}
 use Rattle.mm_transfer.proofs.Wanting.{held_wants}
@@ -36,3 +38,9 @@ pub returns-clause-wants : goal.returns-clause-wants
 returns-clause-wants c =
     held_wants c.args.self.now (side_event_of c.args.event.now) c.match-event.self-inside.header (both_in c.match-event.self-inside)
     c.match-event.result (header_is c) (comes c).wants
+
+pub returns-clause-sayable : goal.returns-clause-sayable
+returns-clause-sayable c = grind (arith, common_steps)
+
+pub returns-clause-grows : goal.returns-clause-grows
+returns-clause-grows c = grind (arith, common_steps)
