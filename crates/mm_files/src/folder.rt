@@ -55,6 +55,8 @@ impl<F: Lock + OpenFile + FileExt + Drop> Folder<F> {
         match self.enter_by(files, &folder) {
             Ok(()) => {
                 self.lock = Some(folder);
+                self.nv.set_listed();
+                self.register.set_listed();
                 Ok(())
             }
             Err(cause) => {
@@ -68,12 +70,8 @@ impl<F: Lock + OpenFile + FileExt + Drop> Folder<F> {
     // Does so by this folder, which was just opened.
     fn enter_by<R: Files<File = F>>(&mut self, files: &R, folder: &F) -> Result<(), Cause> {
         locked(folder.lock_alone())?;
-        open_synced(&mut self.nv, files)?;
-        open_synced(&mut self.register, files)?;
-        named(FileName::Here, folder.sync_all())?;
-        self.nv.set_listed();
-        self.register.set_listed();
-        Ok(())
+        open_both(&mut self.nv, &mut self.register, files)?;
+        named(FileName::Here, folder.sync_all())
     }
 
     /// Sees to it that `bytes` are those of `nv`. Those past its end are zero, and all where it is
@@ -150,6 +148,19 @@ impl<F: Lock + OpenFile + FileExt + Drop> Folder<F> {
         let old = value_in(&mut self.register, &self.lock)?;
         self.put_register(files, &extended(&old, value))
     }
+}
+
+// Opens both files, and lets their bytes be on the disk.
+fn open_both<R: Files>(
+    nv: &mut KeptFile<R::File>,
+    register: &mut KeptFile<R::File>,
+    files: &R,
+) -> Result<(), Cause>
+where
+    R::File: FileExt,
+{
+    open_synced(nv, files)?;
+    open_synced(register, files)
 }
 
 // Opens a file, and lets its bytes be on the disk.

@@ -149,7 +149,7 @@ impl<F: OpenFile + FileExt + Drop> KeptFile<F> {
     fn close_other<R: Files<File = F>>(&mut self, files: &R) {
         if let Some(opened) = &mut self.opened {
             if !opened.is_seen(&sight_at(files, self.name.text())) {
-                self.opened = None;
+                self.close();
             }
         }
     }
@@ -166,7 +166,7 @@ impl<F: OpenFile + FileExt + Drop> KeptFile<F> {
 
     /// A call on the file failed so: it is closed.
     pub fn fail(&mut self, cause: Cause) {
-        self.opened = None;
+        self.close();
         self.failed = Some(cause);
     }
 

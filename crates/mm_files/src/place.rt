@@ -106,12 +106,15 @@ impl FilePlace {
     }
 }
 
-// Whether nothing is at a path, or no link.
-fn is_no_link(error: &io::Error) -> bool {
-    matches!(error.kind(), ErrorKind::NotFound | ErrorKind::InvalidInput)
+// Why a link couldn't be read: no error where nothing is at its path, or no link.
+fn unless_no_link(error: io::Error) -> io::Result<()> {
+    match error.kind() {
+        ErrorKind::NotFound | ErrorKind::InvalidInput => Ok(()),
+        _ => Err(error),
+    }
 }
 
-// Puts the path to which the links of a name lead in place of this one. It is the name where it is
+// Lets an empty path become the one to which the links of a name lead. It is the name where it is
 // no link.
 fn follow_links<R: Files>(
     alloc: Global,
@@ -119,15 +122,14 @@ fn follow_links<R: Files>(
     name: &str,
     path: &mut PathBuf,
 ) -> io::Result<()> {
-    *path = PathBuf::from_str(alloc, name)?;
+    path.push(name)?;
     for _ in 0..MOST_LINKS {
         match files.read_link(alloc, path.as_str()) {
             Ok(target) => {
                 let _ = path.pop();
                 path.push(target)?;
             }
-            Err(error) if is_no_link(&error) => return Ok(()),
-            Err(error) => return Err(error),
+            Err(error) => return unless_no_link(error),
         }
     }
     Err(io::Error::from(ErrorKind::FilesystemLoop))

@@ -86,19 +86,26 @@ resized-same bytes now h =
 pub resized-length : (bytes : List ℕ) → resized_bytes (length bytes) bytes ≡ bytes
 resized-length bytes = resized-same bytes bytes (λ i below. refl)
 
+-- the zero bytes behind the bytes that there are
+zeros_behind : (size : ℕ) (rest part back : List ℕ) → part ≡ take size rest →
+    back ≡ drop (length part) (replicate size 0) → back ≡ replicate (size - length rest) 0
+zeros_behind size rest part back f g =
+    g ∙ drop-replicate (length part) size 0
+    ∙ ap (λ n. replicate n 0) (omega (arith, ap length f, length-take size rest))
+
+padded : (size : ℕ) (rest part back : List ℕ) → part ≡ take size rest → back ≡ replicate (size - length rest) 0 →
+    part ++ back ≡ resized_bytes size rest
+unfolding resized_bytes
+padded size rest part back f g = ap (λ (x : List ℕ). x ++ back) f ∙ ap (λ (x : List ℕ). take size rest ++ x) g
+
 -- a part of the bytes, and zero bytes up to a page
 padded_part : (size at : ℕ) (bytes rest part back : List ℕ) → rest ≡ drop (min at (length bytes)) bytes →
     part ≡ take (min (length rest) size) rest → back ≡ drop (length part) (replicate size 0) →
     part ++ back ≡ resized_bytes size (drop at bytes)
-unfolding resized_bytes
 padded_part size at bytes rest part back e f g =
-    let rest_is : rest ≡ drop at bytes = e ∙ drop_min at bytes in
     let part_is : part ≡ take size rest = f ∙ take-min size rest in
-    let few : size - length part ≡ size - length rest = omega (arith, ap length part_is, length-take size rest) in
-    let back_is : back ≡ replicate (size - length rest) 0 =
-    g ∙ drop-replicate (length part) size 0 ∙ ap (λ n. replicate n 0) few in
-    ap (λ (x : List ℕ). x ++ back) part_is ∙ ap (λ (x : List ℕ). take size rest ++ x) back_is
-    ∙ ap (λ (x : List ℕ). take size x ++ replicate (size - length x) 0) rest_is
+    padded size rest part back part_is (zeros_behind size rest part back part_is g)
+    ∙ ap (λ (x : List ℕ). resized_bytes size x) (e ∙ drop_min at bytes)
 
 pub page_of-parts : (page : ℕ) (bytes rest part back : List ℕ) → rest ≡ drop (min (256 * page) (length bytes)) bytes →
     part ≡ take (min (length rest) 256) rest → back ≡ drop (length part) (replicate 256 0) →

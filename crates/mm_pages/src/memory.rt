@@ -89,9 +89,7 @@ fn put_at(bytes: &mut [u8], start: usize, part: &[u8; 256])
     requires { start + 256 ≤ length bytes.old }
     ensures { bytes.new ≡ take start bytes.old ++ (part.now ++ drop 256 (drop start bytes.old)) }
 {
-    let (_, rest) = bytes.split_at_mut(start);
-    let (there, _) = rest.split_at_mut(PAGE);
-    there.copy_from_slice(part);
+    bytes[start..start + PAGE].copy_from_slice(part);
 }
 
 // Four empty slots.

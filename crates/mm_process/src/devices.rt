@@ -4,6 +4,7 @@
 use crate::program::Program;
 use crate::reasons::{Reasons, say};
 use crate::words::words_after_name;
+use mm_base::Memory;
 use mm_files::{FilePages, FilePlatform, FileSource, StdSink, StdSource};
 use mm_pages::PageStore;
 use mm_status::Status;
@@ -38,22 +39,15 @@ fn with_words<G: Program>(rt: &HostRuntime, program: &G, texts: &[String]) -> io
 }
 
 fn with_store<G: Program>(rt: &HostRuntime, program: &G, words: &[&str]) -> io::Result<Status> {
-    match FilePages::new(rt.alloc(), rt) {
-        Ok(pages) => with_pages(rt, program, words, pages),
+    match store_in_files(rt) {
+        Ok(mut store) => Ok(with_platform(rt, program, words, &mut store)),
         Err(_) => Err(io::Error::from(ErrorKind::OutOfMemory)),
     }
 }
 
-fn with_pages<G: Program>(
-    rt: &HostRuntime,
-    program: &G,
-    words: &[&str],
-    pages: FilePages<'_, HostRuntime>,
-) -> io::Result<Status> {
-    match PageStore::new(rt.alloc(), pages) {
-        Ok(mut store) => Ok(with_platform(rt, program, words, &mut store)),
-        Err(_) => Err(io::Error::from(ErrorKind::OutOfMemory)),
-    }
+// The store in the slots' files.
+fn store_in_files(rt: &HostRuntime) -> Result<PageStore<FilePages<'_, HostRuntime>>, Memory> {
+    PageStore::new(rt.alloc(), FilePages::new(rt.alloc(), rt)?)
 }
 
 fn with_platform<G: Program>(

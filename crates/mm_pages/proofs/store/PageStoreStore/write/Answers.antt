@@ -17,3 +17,13 @@ pub returns-clause-settled : goal.returns-clause-settled
 returns-clause-settled g c =
     let done : is_err c.put_bytes.result ≡ false = cc in
     (put_whole g.D.PageDevice.pages _ _ _ _ _ _ _ c.self.view_is c.put_bytes.ensures done).settled
+
+pub returns-clause-looks : goal.returns-clause-looks
+returns-clause-looks g c =
+    let done : is_err c.put_bytes.result ≡ false = cc in
+    (put_whole g.D.PageDevice.pages _ _ _ _ _ _ _ c.self.view_is c.put_bytes.ensures done).looks
+
+pub returns-clause-lengths : goal.returns-clause-lengths
+returns-clause-lengths g c =
+    let done : is_err c.put_bytes.result ≡ false = cc in
+    (put_whole g.D.PageDevice.pages _ _ _ _ _ _ _ c.self.view_is c.put_bytes.ensures done).lengths
