@@ -5,8 +5,8 @@ ghost use Rattle.mm_base.specs.Limits.{most_events};
 ghost use Rattle.mm_app.specs.Bulk.{RunsInBulk, TellsSummary};
 ghost use Rattle.mm_host_commands.specs.Outside.{Outside};
 
-use mm_lines::Sink;
 use mm_gen::{BulkFault, Summary, bulk, summary_text};
+use mm_lines::Sink;
 use mm_status::{Status, stopped, written};
 use mm_words::GeneratedSchedule;
 use std::alloc::Global;

@@ -5,8 +5,8 @@ ghost use Rattle.mm_base.specs.Limits.{most_events};
 ghost use Rattle.mm_gen.specs.Schedules.{schedule_text};
 ghost use Rattle.mm_status.specs.CommandOutput.{StopsAs, WritesText};
 
-use mm_lines::Sink;
 use mm_gen::gen_;
+use mm_lines::Sink;
 use mm_status::{Status, stopped, written};
 use mm_words::GeneratedSchedule;
 use std::alloc::Global;

@@ -9,11 +9,11 @@ ghost use Rattle.mm_at_work.specs.Commands.{CommandsAreLife, CommandsFromBlank, 
 ghost use Rattle.mm_at_work.specs.CommandLives.{CheckpointsArePartsOfLife, InitBeginsLife, LossesArePartsOfLife, RunsArePartsOfLife, RunsFindTheInstance};
 
 use mm_app::{Status, memoir};
-use mm_lines::{Sink, Source};
 use mm_life::{
     basic_life_is_one, device_calls_are_deeds, lives_keep_promises, opt_life_is_one,
     sessions_offer_slots,
 };
+use mm_lines::{Sink, Source};
 use mm_platform::Platform;
 use mm_store::Store;
 use std::alloc::Global;

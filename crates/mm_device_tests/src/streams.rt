@@ -5,8 +5,8 @@ ghost use Rattle.std.specs.Prelude.{None};
 
 use crate::commands::{command, replay};
 use mm_base::{Failed, Memory};
-use mm_lines::{MemSink, MemSource, Sink, Source};
 use mm_files::{StdSink, StdSource};
+use mm_lines::{MemSink, MemSource, Sink, Source};
 use mm_platform::MemPlatform;
 use mm_store::MemStore;
 use std::alloc::Global;

@@ -7,8 +7,8 @@ ghost use Rattle.mm_host_commands.specs.Run.{LooksAtInstance, RunsInstance, Sees
 
 use crate::session_status::of_session;
 use mm_base::CELL_LENGTH;
-use mm_lines::{Sink, Source};
 use mm_host::session;
+use mm_lines::{Sink, Source};
 use mm_modules::by_id;
 use mm_platform::Platform;
 use mm_schedule::Header;

@@ -14,9 +14,9 @@ ghost use Rattle.mm_recovery.specs.Init.{devices, LooksAtCell, TakesBytes, taken
 use crate::init_fault::InitFault;
 use mm_ask::{Caller, Secrets};
 use mm_base::{CELL_LENGTH, Failed, Memory};
-use mm_lines::Source;
 use mm_call::Provisioned;
 use mm_digest::Variant;
+use mm_lines::Source;
 use mm_module::Module;
 use mm_platform::{Platform, StepFault};
 use mm_store::{Store, StoreFault};

@@ -8,7 +8,9 @@ ghost use Rattle.mm_base.specs.Limits.{last_position, longest_request};
 ghost use Rattle.mm_store.specs.PendingRecord.{IsPending, record_word, pending_front, pending_spelling, ReadsPendingRecord, HasOneReading, SpellsRecord, SpellsNoRecord};
 ghost use Rattle.mm_store.specs.Records.{pending_of};
 
-use mm_base::{Bytes, LAST_POSITION, LONGEST_REQUEST, Memory, bytes_of_u32, bytes_of_u64, split_u32, split_u64};
+use mm_base::{
+    Bytes, LAST_POSITION, LONGEST_REQUEST, Memory, bytes_of_u32, bytes_of_u64, split_u32, split_u64,
+};
 use sha2::{Digest as _, Sha256};
 use std::alloc::Global;
 
