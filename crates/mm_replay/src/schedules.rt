@@ -55,8 +55,12 @@ pub fn replay<S: Source, K: Sink>(
     fronts_are_one_run();
     premises_or_evidence();
     let mut player: LinePlayer<HeaderLine, ScheduleReplay> = LinePlayer::new(HeaderLine {});
-    match play(alloc, &mut player, input, out) {
-        Ok(()) => Ok(report_of(&player)),
+    let played = play(alloc, &mut player, input, out);
+    let report = report_of(&player);
+    // Given away whole: else each way out would take it apart, field by field.
+    drop(player);
+    match played {
+        Ok(()) => Ok(report),
         Err(fault) => Err(fault),
     }
 }
