@@ -25,7 +25,11 @@ fn judge<S: Source>(alloc: Global, input: &mut S) -> Result<Verdicts, ReplayFaul
         → (outcome_of_input (check_answer header_at) check_closing AtHeader bytes).outcome ≡ Ok next
         → IsUnrefused result }
 {
-    verdicts_by(alloc, &mut CheckPlayer::new(), input)
+    let mut player = CheckPlayer::new();
+    let judged = verdicts_by(alloc, &mut player, input);
+    // It goes to `drop` whole, and isn't taken apart here.
+    drop(player);
+    judged
 }
 
 // The same, by a player that stands before the header.

@@ -78,8 +78,9 @@ impl Comparison {
     pub fn new(alloc: Global, reading: ScheduleReader) -> Result<Comparison, Memory>
         ensures { IfOk result (λ it. it ≡ first_compared_run reading) }
     {
-        let decided = reading.decide(alloc)?;
+        let decision = reading.decide(alloc);
         let (header, events) = reading.into_events();
+        let decided = decision?;
         Ok(Comparison {
             header,
             events,

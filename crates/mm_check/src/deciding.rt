@@ -184,5 +184,8 @@ pub(crate) fn decide(alloc: Global, header: &Header, events: &[Event]) -> Result
 {
     let expecting = Expectation::new(alloc, header)?;
     let mut deciding = Decider::new(alloc, expecting);
-    deciding.decide(alloc, header, events)
+    let decided = deciding.decide(alloc, header, events);
+    // It goes to `drop` whole, and isn't taken apart here.
+    drop(deciding);
+    decided
 }

@@ -93,7 +93,8 @@ impl Player for CheckPlayer {
 
     fn reply(&mut self, alloc: Global, line: &[u8]) -> Result<Bytes, ReplyFault> {
         let phase = next_phase(alloc, self.phase.take(), line)?;
-        self.phase = Some(phase);
+        // What stood there before goes to `drop` whole, and isn't taken apart here.
+        drop(self.phase.replace(phase));
         Ok(Bytes::new(alloc))
     }
 
@@ -125,7 +126,11 @@ impl CheckPlayer {
         match self.phase.take() {
             None => unreachable!(),
             Some(Phase::Events(reading)) => reading.into_verdicts(alloc),
-            Some(Phase::Replies(comparing)) => Ok(comparing.verdicts()),
+            Some(Phase::Replies(comparing)) => {
+                let verdicts = comparing.verdicts();
+                drop(comparing);
+                Ok(verdicts)
+            }
         }
     }
 }

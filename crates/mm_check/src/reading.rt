@@ -153,7 +153,15 @@ impl ScheduleReader {
         ensures header { result.0 ≡ self.header }
         ensures events { events_of result.1.items ≡ self.events }
     {
-        let ScheduleReader { header, events, .. } = self;
+        let ScheduleReader {
+            header,
+            progress,
+            events,
+            told,
+        } = self;
+        // They go to `drop` whole, and aren't taken apart here.
+        drop(progress);
+        drop(told);
         (header, events)
     }
 
