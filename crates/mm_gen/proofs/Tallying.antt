@@ -5,7 +5,8 @@ use Rattle.mm_gen.proofs.Below.{position_or_len, ne_eqb, nat_tests, length-appen
 use Rattle.mm_gen.proofs.Below.{longest_line, most_events, Header, Event, event_at, header_text, end_line, spelled_is_read, IsEventLine}
 use Rattle.mm_gen.proofs.Below.{schedule_lines, schedule_text, RunOutcome, outcome_of_events, outcome_by_digests, world_of, RunningReplay}
 use Rattle.mm_gen.proofs.Below.{running_replay_after, first_running_replay, is_too_much, running_outcome, text_of_replies, IsLimited}
-use Rattle.mm_gen.proofs.Below.{is_over, is_break, SumsUp, BulkFault, Memory, TooMuch, Summary}
+use Rattle.mm_gen.proofs.Below.{is_over, is_break, SumsUp, BulkFault, Memory, TooMuch, Summary, Result, IfOk, All, All-weaker, lines_of}
+use Rattle.mm_gen.proofs.Below.{lines_of-joined}
 use Rattle.std.specs.Prelude.{Some, Err}
 use Rattle.std.proofs.Math.Seq.{take-append_seam, drop-append-add}
 use Rattle.mm_digest.specs.declared.digest.Digest.{Digest}
@@ -19,6 +20,7 @@ use Rattle.mm_gen.specs.Sums.{counts_after_reply, counts_of, no_counts, total}
 use Rattle.mm_gen.specs.LineBreaks.{line_at}
 use Rattle.mm_gen.specs.declared.counts.ReplyCounts.{ReplyCounts}
 use Rattle.std.specs.List.{flat_map}
+use Rattle.std.specs.Option.{option_map_or}
 
 -- ---- the first line
 
@@ -39,6 +41,13 @@ line_again line more unbroken =
     let found : position is_break (line ++ 10 ∷ more) ≡ Some
     (length line) = rw (first_break line more (recursion_from_All IsNoBreak line unbroken), test) refl in
     rw (found, take-append_seam line (10 ∷ more), drop-append-add line (10 ∷ more) 1) refl
+
+no_line : (it : List ℕ × List ℕ) → None ≡ Some it → ⊥
+no_line it is = cc
+
+one_line : (one other : List ℕ × List ℕ) → Some one ≡ Some other → one ≡ other
+one_line one other is =
+    ap (λ (o : Option (List ℕ × List ℕ)). option_map_or (λ (parts : List ℕ × List ℕ). parts) o one) is
 
 -- ---- the events of lines
 
@@ -147,7 +156,7 @@ module _ (lines : List (List ℕ)) where
       (text line behind : List ℕ) → GoingWith lines rest r counts text left are → line_at rest ≡ Some (line, behind)
       → Next lines rest r counts text line behind
   unfolding line_at
-  next_line [] are rest r counts text line behind going found = let nothing : line_at rest ≡ None = ap line_at going.bytes in cc
+  next_line [] are rest r counts text line behind going found = let nothing : line_at rest ≡ None = ap line_at going.bytes in absurd (no_line _ (sym nothing ∙ found))
   next_line (l ∷ more) are rest r counts text line behind going found =
       let few = going.few in
       let read = spelled_is_read l are.0.event are.0.spelled in
@@ -162,7 +171,7 @@ module _ (lines : List (List ℕ)) where
         on = λ reply new answered.
             let is = answered.1 are.0.event read in rw (is.0, is.1) (answered_on more l rest r counts text are read answered.0 going);
       } in
-      let same : (l, joined_lines more) ≡ (line, behind) = cc in
+      let same : (l, joined_lines more) ≡ (line, behind) = one_line _ _ (sym again ∙ sym at ∙ found) in
       subst (λ (p : List ℕ × List ℕ). Next lines rest r counts text p.0 p.1) same made
 
   pub next : (rest : List ℕ) (r : RunningReplay) (counts : ReplyCounts) (text line behind : List ℕ) → Going lines rest r counts text
@@ -184,7 +193,7 @@ module _ (lines : List (List ℕ)) where
         record { events = going.all; read = going.whole; told = rw (sym state, sym issued, sym numbered, sym written) refl },
       )
   ended_at (l ∷ more) are rest r counts text going none =
-      let found = ap line_at going.bytes ∙ line_again l (joined_lines more) are.0.unbroken in cc
+      let found = ap line_at going.bytes ∙ line_again l (joined_lines more) are.0.unbroken in absurd (no_line _ (sym none ∙ found))
 
   -- no line was one too many
   pub within : (rest : List ℕ) (r : RunningReplay) (counts : ReplyCounts) (text : List ℕ) (header : Header) → Going lines rest r counts text
@@ -223,13 +232,11 @@ pub behind_first : (number count : ℕ) (header : Header)
 behind_first number count header =
     line_again (header_text header) (joined_lines (schedule_lines number count header)) (header-unbroken header)
 
-pub starts : (number count : ℕ) (header : Header) (rest : List ℕ) (r : RunningReplay) (counts : ReplyCounts) (text : List ℕ)
-    → count ≤ most_events
-    → rest ≡ joined_lines (schedule_lines number count header) → r ≡ first_running_replay header → counts ≡ no_counts → text ≡ []
-    → Going (schedule_lines number count header) rest r counts text
-starts number count header rest r counts text few one two three four =
-    let is = is_schedule number count header few in let lines : List (List ℕ) = schedule_lines number count header in
-    let are = recursion_from_All IsEventLine lines is.events in
+pub starts : (lines : List (List ℕ)) (header : Header) (rest : List ℕ) (r : RunningReplay) (counts : ReplyCounts) (text : List ℕ)
+    → length lines ≤ most_events → All IsEventLine lines
+    → rest ≡ joined_lines lines → r ≡ first_running_replay header → counts ≡ no_counts → text ≡ [] → Going lines rest r counts text
+starts lines header rest r counts text few events one two three four =
+    let are = recursion_from_All IsEventLine lines events in
     rw (one, two, three, four) (record {
       left = lines;
       are = are;
@@ -237,11 +244,48 @@ starts number count header rest r counts text few one two three four =
         all = events_of lines are;
         bytes = refl;
         whole = events_read lines are;
-        few = omega (arith, is.counted, few);
+        few = omega (arith, few);
         over = refl;
         rests = record { replies = refl; counted = refl; state = refl; issued = refl };
       };
     })
+
+-- these lines are the text's, and each is an event's
+pub record AreLeft (all : List (List ℕ)) (rest : List ℕ) : Type 0 where
+  pub lines : lines_of rest ≡ all
+  pub few : length (lines_of rest) ≤ most_events
+  pub events : All IsEventLine (lines_of rest)
+  pub whole : joined_lines (lines_of rest) ≡ rest
+
+-- the lines behind the header's
+pub are_left : (number count : ℕ) (header : Header) (text rest : List ℕ) → count ≤ most_events → text ≡ schedule_text number count header
+    → ((first behind : List ℕ) → line_at text ≡ Some (first, behind) → rest ≡ behind)
+    → AreLeft (schedule_lines number count header) rest
+are_left number count header text rest few is gives =
+    let events = (is_schedule number count header few).events in
+    let counted = (is_schedule number count header few).counted in
+    let all : List (List ℕ) = schedule_lines number count header in
+    let unbroken : AllByRecursion IsUnbroken all = recursion_from_All IsUnbroken all
+    (All-weaker IsEventLine IsUnbroken (λ line event. event.unbroken) all events) in
+    let bytes : rest ≡ joined_lines all = gives _ _ (ap line_at is ∙ behind_first number count header) in
+    let lines : lines_of rest ≡ all = ap lines_of (bytes ∙ sym (append-nil (joined_lines all)))
+    ∙ lines_of-joined all [] unbroken ∙ append-nil all in
+    record {
+      lines = lines;
+      few = omega (arith, ap (λ (xs : List (List ℕ)). length xs) lines, counted, few);
+      events = subst (All IsEventLine) (sym lines) events;
+      whole = ap joined_lines lines ∙ sym bytes;
+    }
+
+-- what was summed up of the lines that were left
+pub handed_sums : (header other : Header) (lines shown : List (List ℕ)) (result : Result Summary BulkFault) → shown ≡ lines
+    → other ≡ header → IfOk result (SumsUp other shown) → IfOk result (SumsUp header lines)
+handed_sums header other lines shown result is same sums = rw (sym is, sym same) sums
+
+pub handed_limit : (header other : Header) (lines shown : List (List ℕ)) (result : Result Summary BulkFault) → shown ≡ lines
+    → other ≡ header → IsLimited (is_over (first_running_replay other) shown) result
+    → IsLimited (is_over (first_running_replay header) lines) result
+handed_limit header other lines shown result is same limit = rw (sym is, sym same) limit
 
 -- a line more, by what stands behind it
 pub goes_on : (lines : List (List ℕ)) (rest : List ℕ) (r new : RunningReplay) (counts more : ReplyCounts)

@@ -1,14 +1,16 @@
 //! A generated schedule, run from its first line to its last.
 
-ghost use Rattle.std.specs.Prelude.{◌≡◌, ◌<◌, ◌≤◌, ◌++◌, ℕ, List, length, true, is_some, Some, Err, IfOk, OnOk};
+ghost use Rattle.std.specs.Prelude.{◌≡◌, ◌<◌, ◌≤◌, ◌++◌, ℕ, List, [], All, length, true, is_some, Some, Err, IfOk, OnOk};
 ghost use Rattle.sha2.specs.Sha256.{sha256};
 ghost use Rattle.mm_base.specs.Limits.{longest_line, most_events};
+ghost use Rattle.mm_lines.specs.Input.{joined_lines, lines_of};
 ghost use Rattle.mm_schedule.specs.Grammar.{event_at};
 ghost use Rattle.mm_schedule.specs.Replies.{IsPrintable};
 ghost use Rattle.mm_gen.specs.Schedules.{schedule_lines};
 ghost use Rattle.mm_replay.specs.Progress.{running_replay};
 ghost use Rattle.mm_replay.specs.Schedule.{first_running_replay, is_too_much};
 ghost use Rattle.mm_replay.specs.Text.{text_of_replies};
+ghost use Rattle.mm_gen.specs.Laws.{IsEventLine};
 ghost use Rattle.mm_gen.specs.Limits.{IsLimited, RunsLine, is_over};
 ghost use Rattle.mm_gen.specs.LineBreaks.{line_at};
 ghost use Rattle.mm_gen.specs.Replay.{IsReplayed, replay_of};
@@ -53,16 +55,38 @@ fn bulk_inner(alloc: Global, number: u64, count: u32, header: &Header) -> Result
         result }
 {
     let schedule = gen_(alloc, number, count, header)?;
-    let mut rest = behind_header(schedule.as_slice());
     let mut progress = ReplayProgress::new(alloc, header)?;
+    let text = behind_header(schedule.as_slice());
+    summary_of(alloc, text, &mut progress, &mut Bytes::new(alloc))
+}
+
+/// The summary of these event lines, answered in turn by a replay at its first event. The replay and
+/// the replies are lent, so that no way out of the loop takes them apart.
+fn summary_of(
+    alloc: Global,
+    text: &[u8],
+    progress: &mut ReplayProgress,
+    replies: &mut Bytes,
+) -> Result<Summary, BulkFault>
+    requires few { length (lines_of text.now) ≤ most_events }
+    requires events { All IsEventLine (lines_of text.now) }
+    requires whole { joined_lines (lines_of text.now) ≡ text.now }
+    requires first { running_replay progress.old
+        ≡ first_running_replay (running_replay progress.old).header }
+    requires nothing { replies.old ≡ [] }
+    ensures sums { IfOk result (SumsUp (running_replay progress.old).header (lines_of text.now)) }
+    ensures limit { IsLimited
+        (is_over (first_running_replay (running_replay progress.old).header) (lines_of text.now))
+        result }
+{
+    let mut rest = text;
     let mut counts = ReplyCounts::none();
-    let mut replies = Bytes::new(alloc);
     'lines: while let Some((line, behind)) = first_line(rest) {
-        let reply = answered(alloc, line, &mut progress)?;
-        tally(reply, &mut counts, &mut replies)?;
+        let reply = answered(alloc, line, progress)?;
+        tally(reply, &mut counts, replies)?;
         rest = behind;
     }
-    progress.put_last_line(&mut replies)?;
+    progress.put_last_line(replies)?;
     let report = progress.report();
     Ok(Summary {
         counts,

@@ -1,54 +1,34 @@
-use Rattle.mm_gen.proofs.Below.{◌∙◌, sym, ap, Err, sha256, running_replay, RunningReplay, line_at}
-use Rattle.std.proofs.lemmas.Result.{err_from_is_err_and}
-use Rattle.mm_gen.proofs.Tallying.{behind_first, ended, goes_on, next, starts, stops, within}
+use Rattle.mm_gen.proofs.Below.{◌∙◌, ap, sym, RunningReplay, first_running_replay}
+use Rattle.mm_gen.proofs.Tallying.{are_left, handed_limit, handed_sums}
 use Rattle.mm_gen.proofs.run.bulk_inner.Goals as goal
 
-pub lines-init : goal.lines-init
-lines-init c =
-    let found = ap line_at (c.as_slice.ensures.value ∙ c.in_ok-schedule.ensures)
-    ∙ behind_first c.args.number c.args.count c.args.header.now in
-    let rest = c.behind_header-rest.ensures _ _ found in
-    record {
-      going = starts c.args.number c.args.count c.args.header.now _ (running_replay c.in_ok-progress.progress) _ _ c.requires.count rest
-          c.in_ok-progress.ensures c.none-counts.ensures c.new-replies.ensures;
-      header = ap (λ (r : RunningReplay). r.header) c.in_ok-progress.ensures;
-    }
+pub summary_of-requires-clause-few : goal.summary_of-requires-clause-few
+summary_of-requires-clause-few c =
+    (are_left c.args.number c.args.count c.args.header.now _ _ c.requires.count (c.as_slice.ensures.value ∙ c.in_ok-schedule.ensures)
+    c.behind_header-text.ensures).few
 
-pub answered-requires-clause-short : goal.answered-requires-clause-short
-answered-requires-clause-short c = (next _ _ _ _ _ _ _ c.lines.invariant.going (sym c.in-Some.ensures)).short
+pub summary_of-requires-clause-events : goal.summary_of-requires-clause-events
+summary_of-requires-clause-events c =
+    (are_left c.args.number c.args.count c.args.header.now _ _ c.requires.count (c.as_slice.ensures.value ∙ c.in_ok-schedule.ensures)
+    c.behind_header-text.ensures).events
 
-pub answered-requires-clause-known : goal.answered-requires-clause-known
-answered-requires-clause-known c = (next _ _ _ _ _ _ _ c.lines.invariant.going (sym c.in-Some.ensures)).known
+pub summary_of-requires-clause-whole : goal.summary_of-requires-clause-whole
+summary_of-requires-clause-whole c =
+    (are_left c.args.number c.args.count c.args.header.now _ _ c.requires.count (c.as_slice.ensures.value ∙ c.in_ok-schedule.ensures)
+    c.behind_header-text.ensures).whole
 
-pub tally-requires-clause-room : goal.tally-requires-clause-room
-tally-requires-clause-room c = (next _ _ _ _ _ _ _ c.lines.invariant.going (sym c.in-Some.ensures)).room
-
-pub lines-smaller : goal.lines-smaller
-lines-smaller c = (next _ _ _ _ _ _ _ c.lines.invariant.going (sym c.in-Some.ensures)).less
-
-pub lines-preserved : goal.lines-preserved
-lines-preserved c =
-    let step = next _ _ _ _ _ _ _ c.lines.invariant.going (sym c.in-Some.ensures) in
-    record {
-      going = goes_on _ _ _ (running_replay c.answered.new.progress) _ _ _ _ c.in-Some.line.now c.in-Some.behind.now
-          c.in_ok-reply.reply step
-          c.in_ok-reply.ensures.reply c.tally.ensures.counted c.in_ok-tally.ensures.put;
-      header = step.header c.in_ok-reply.reply (running_replay c.answered.new.progress) c.in_ok-reply.ensures.reply
-          ∙ c.lines.invariant.header;
-    }
+pub summary_of-requires-clause-first : goal.summary_of-requires-clause-first
+summary_of-requires-clause-first c =
+    let is = c.in_ok-progress.ensures in is ∙ ap (λ (r : RunningReplay). first_running_replay r.header) (sym is)
 
 pub returns-clause-sums : goal.returns-clause-sums
 returns-clause-sums c =
-    ended _ _ (running_replay c.lines.progress) _ _ _ _ _ c.digest_of.result c.lines.invariant.going (sym c.in_default.ensures)
-    c.lines.invariant.header c.report-report.ensures.committed c.report-report.ensures.issued
-    (c.digest_of.ensures ∙ ap sha256 (c.as_slice-2.ensures.value ∙ c.in_ok-put_last_line.ensures))
-
-pub returns-in_err-reply-clause-limit : goal.returns-in_err-reply-clause-limit
-returns-in_err-reply-clause-limit c =
-    let p = err_from_is_err_and c.from_residual-in_err-reply.result c.from_residual-in_err-reply.ensures.1 in
-    let step = next _ _ _ _ _ _ _ c.lines.invariant.going (sym c.in-Some.ensures) in
-    rw (p.1, p.2) (stops _ _ _ _ _ _ _ _ c.in_err-reply.field-0.0 step c.lines.invariant.header
-    (λ much. c.in_err-reply.ensures.limit (ap Err much)))
+    handed_sums c.args.header.now _ _ _ c.summary_of.result
+    (are_left c.args.number c.args.count c.args.header.now _ _ c.requires.count (c.as_slice.ensures.value ∙ c.in_ok-schedule.ensures)
+    c.behind_header-text.ensures).lines (ap (λ (r : RunningReplay). r.header) c.in_ok-progress.ensures) c.summary_of.ensures.sums
 
 pub returns-clause-limit : goal.returns-clause-limit
-returns-clause-limit c = within _ _ _ _ _ _ c.lines.invariant.going c.lines.invariant.header (sym c.in_default.ensures)
+returns-clause-limit c =
+    handed_limit c.args.header.now _ _ _ c.summary_of.result
+    (are_left c.args.number c.args.count c.args.header.now _ _ c.requires.count (c.as_slice.ensures.value ∙ c.in_ok-schedule.ensures)
+    c.behind_header-text.ensures).lines (ap (λ (r : RunningReplay). r.header) c.in_ok-progress.ensures) c.summary_of.ensures.limit
