@@ -1,7 +1,8 @@
 -- A schedule in the making: its text so far, and the lines that are left.
 use Rattle.mm_gen.proofs.Below.{◌≡◌, ◌<◌, ◌≤◌, ℕ, zero, suc, ◌+◌, ◌-◌, ◌*◌, List, [], ◌∷◌, ◌++◌, length, take, refl, sym, ap, ◌∙◌, arith}
 use Rattle.mm_gen.proofs.Below.{append_assoc, inl, inr, min, cases_lt, length-take, joined_lines, joined-append, Header, lines_from}
-use Rattle.mm_gen.proofs.Below.{schedule_text, words_at, turn_lines}
+use Rattle.mm_gen.proofs.Below.{schedule_text, words_at, turn_lines, append-nil, ChaCha, header_text, key_of, seed_from}
+use Rattle.rand_chacha.specs.ChaCha.{of_seed}
 use Rattle.mm_gen.proofs.Spelled.{are_few}
 
 -- so many lines are done, and the next words are drawn from this place on
@@ -67,3 +68,27 @@ module _ (number count : ℕ) (header : Header) (text : List ℕ) where
       → Going number count header (text ++ joined_lines (take (count - done) (turn_lines header (done + 1) (words_at key place)))) key
       (place + 4) (done + shown)
   goes_on key place done shown going more is = stepped key place done shown going.turns more going.drawn going.enough going.whole is
+
+-- the header's line is put, and no turn
+pub begins : (number count : ℕ) (header : Header) (none headed text seed : List ℕ) (generator : ChaCha) → none ≡ []
+    → headed ≡ none ++ header_text header → text ≡ headed ++ 10 ∷ [] → seed ≡ seed_from number → generator ≡ of_seed seed
+    → Going number count header text generator.key generator.word_pos 0
+begins number count header none headed text seed generator one two three four five =
+    let all : count - 0 ≡ count = omega arith in
+    rw (five, four, three, two, one) (record {
+      few = omega arith;
+      drawn = omega arith;
+      turns = count;
+      enough = omega arith;
+      whole = rw all (append_assoc (header_text header) (10 ∷ [])
+          (joined_lines (take count (lines_from header (key_of (seed_from number)) 0 1 count))));
+    })
+
+-- all lines are put
+pub whole_text : (number count : ℕ) (header : Header) (text key : List ℕ) (place done : ℕ)
+    → Going number count header text key place done → count ≤ done
+    → text ≡ schedule_text number count header
+whole_text number count header text key place done going all =
+    let none : 0 ≡ count - done = omega (arith, all) in
+    sym (append-nil text) ∙ ap (λ (n : ℕ). text ++ joined_lines (take n (lines_from header key place (done + 1) going.turns))) none
+    ∙ going.whole

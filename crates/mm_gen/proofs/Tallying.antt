@@ -156,7 +156,8 @@ module _ (lines : List (List ℕ)) where
       (text line behind : List ℕ) → GoingWith lines rest r counts text left are → line_at rest ≡ Some (line, behind)
       → Next lines rest r counts text line behind
   unfolding line_at
-  next_line [] are rest r counts text line behind going found = let nothing : line_at rest ≡ None = ap line_at going.bytes in absurd (no_line _ (sym nothing ∙ found))
+  next_line [] are rest r counts text line behind going found =
+      let nothing : line_at rest ≡ None = ap line_at going.bytes in absurd (no_line _ (sym nothing ∙ found))
   next_line (l ∷ more) are rest r counts text line behind going found =
       let few = going.few in
       let read = spelled_is_read l are.0.event are.0.spelled in

@@ -60,8 +60,8 @@ fn bulk_inner(alloc: Global, number: u64, count: u32, header: &Header) -> Result
     summary_of(alloc, text, &mut progress, &mut Bytes::new(alloc))
 }
 
-/// The summary of these event lines, answered in turn by a replay at its first event. The replay and
-/// the replies are lent, so that no way out of the loop takes them apart.
+/// The summary of these event lines, answered in turn by a replay at its first event. The replay
+/// and the replies are lent, so that no way out of the loop takes them apart.
 fn summary_of(
     alloc: Global,
     text: &[u8],

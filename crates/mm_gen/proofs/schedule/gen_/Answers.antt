@@ -1,5 +1,5 @@
-use Rattle.mm_gen.proofs.Below.{◌≡◌, ◌∙◌, ◌+◌, ap, ChaCha}
-use Rattle.mm_gen.proofs.Going.{goes_on}
+use Rattle.mm_gen.proofs.Below.{◌≡◌, ◌∙◌, ◌+◌, ap, ChaCha, key_of}
+use Rattle.mm_gen.proofs.Going.{begins, goes_on, whole_text}
 use Rattle.mm_gen.proofs.schedule.gen_.Goals as goal
 
 pub turns-preserved : goal.turns-preserved
@@ -16,3 +16,16 @@ turns-preserved c =
       stream = ap (λ (g : ChaCha). g.stream) after ∙ c.turns.invariant.stream;
       going = rw (text, key, place) going;
     }
+
+pub turns-init : goal.turns-init
+turns-init c =
+    let is = c.from_seed-generator.ensures in
+    record {
+      key = ap (λ (g : ChaCha). g.key) is ∙ ap key_of c.seed_from.ensures;
+      stream = ap (λ (g : ChaCha). g.stream) is;
+      going = begins c.args.number c.args.count c.args.header.now _ _ _ _ _ c.new-text.ensures c.in_ok-put_header.ensures
+          c.in_ok-append.ensures.ok c.seed_from.ensures is;
+    }
+
+pub returns : goal.returns
+returns c = whole_text _ _ _ _ _ _ _ c.turns.invariant.going c.turns-test.false
