@@ -1,5 +1,5 @@
 -- What a command over events does with an input.
-use Rattle.std.specs.Prelude.{ℕ, List, [], Option, Result}
+use Rattle.std.specs.Prelude.{List, [], Result}
 use Rattle.mm_lines.specs.declared.replay_fault.ReplayFault.{ReplayFault}
 use Rattle.mm_play.specs.Headline.{EventPlayer, TellsEvents}
 use Rattle.mm_play.specs.PlaysInput.{PlaysInput}
