@@ -123,11 +123,16 @@ impl Parts {
         let writes = ask.write_step();
         let seat = &mut self.seat;
         match step(&ask, &mut seat.platform, call, &mut seat.keys) {
+            // Let go of as a whole: else each way out takes apart what was asked.
             Err(memory) => {
+                drop(asked);
                 self.register = *self.seat.platform.register();
                 Err(memory)
             }
-            Ok(FlightOutcome::Over(called)) => Ok(self.end(called)),
+            Ok(FlightOutcome::Over(called)) => {
+                drop(asked);
+                Ok(self.end(called))
+            }
             Ok(FlightOutcome::Going(call)) => {
                 let next = u64::from(call.next_step(writes));
                 self.fly(Flight::Asks(AskInFlight { call, asked }));
