@@ -58,8 +58,12 @@ pub fn transfer<S: Source, K: Sink>(
     sides_run_as_one();
     pairs_are_decided();
     let mut player: LinePlayer<FirstLine, TransferStage> = LinePlayer::new(FirstLine {});
-    match play(alloc, &mut player, input, out) {
-        Ok(()) => Ok(report_of(&player)),
+    let played = play(alloc, &mut player, input, out);
+    let report = report_of(&player);
+    // Let go before the ways part: else each way out lets go of all parts of both sides.
+    drop(player);
+    match played {
+        Ok(()) => Ok(report),
         Err(fault) => Err(fault),
     }
 }

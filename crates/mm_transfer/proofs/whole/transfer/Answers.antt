@@ -11,20 +11,20 @@ use Rattle.mm_transfer.proofs.whole.transfer.Goals as goal
 by_laws : PairsAgreeThroughout → OneIsLive → SidesRunAsOne → PairsAreDecided → SideLaws
 by_laws agree live run decided = record { agree = agree; live = live; run = run; decided = decided }
 
-pub returns-clause-plays : goal.returns-clause-plays
-returns-clause-plays g c =
+pub returns-in-Err-clause-plays : goal.returns-in-Err-clause-plays
+returns-in-Err-clause-plays g c =
     events_err transfer_player transfer_heads transfer_stage transfer_steps first_transfer shown_in shows AreOneTransfer
     (are_one_transfer (by_laws c.both_sides_agree.ensures c.one_side_is_live.ensures c.sides_run_as_one.ensures
     c.pairs_are_decided.ensures)) ReportsTransfer
-    c.new-player.ensures c.play.ensures.plays c.in-Err.fault c.in-Err.is
+    c.new-player.ensures c.play-played.ensures.plays c.in-Err.fault c.in-Err.is
 
 pub returns-in-Ok-clause-plays : goal.returns-in-Ok-clause-plays
 returns-in-Ok-clause-plays g c =
     events_ok transfer_player transfer_heads transfer_stage transfer_steps first_transfer shown_in shows AreOneTransfer
     (are_one_transfer (by_laws c.both_sides_agree.ensures c.one_side_is_live.ensures c.sides_run_as_one.ensures
     c.pairs_are_decided.ensures)) ReportsTransfer
-    c.new-player.ensures c.play.ensures.plays tt c.in-Ok.is c.report_of.result c.report_of.ensures
+    c.new-player.ensures c.play-played.ensures.plays tt c.in-Ok.is c.report_of-report.result c.report_of-report.ensures
 
-pub returns-clause-complete : goal.returns-clause-complete
-returns-clause-complete g c =
-    unrefused (plays_err {R = TransferReport} c.new-player.ensures c.play.ensures.plays c.in-Err.fault c.in-Err.is)
+pub returns-in-Err-clause-complete : goal.returns-in-Err-clause-complete
+returns-in-Err-clause-complete g c =
+    unrefused (plays_err {R = TransferReport} c.new-player.ensures c.play-played.ensures.plays c.in-Err.fault c.in-Err.is)
