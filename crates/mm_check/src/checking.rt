@@ -27,7 +27,7 @@ fn judge<S: Source>(alloc: Global, input: &mut S) -> Result<Verdicts, ReplayFaul
 {
     let mut player = CheckPlayer::new();
     let judged = verdicts_by(alloc, &mut player, input);
-    // It goes to `drop` whole, and isn't taken apart here.
+    // A call drops it whole: else each way out takes it apart here.
     drop(player);
     judged
 }

@@ -185,7 +185,7 @@ pub(crate) fn decide(alloc: Global, header: &Header, events: &[Event]) -> Result
     let expecting = Expectation::new(alloc, header)?;
     let mut deciding = Decider::new(alloc, expecting);
     let decided = deciding.decide(alloc, header, events);
-    // It goes to `drop` whole, and isn't taken apart here.
+    // A call drops it whole: else each way out takes it apart here.
     drop(deciding);
     decided
 }

@@ -93,7 +93,7 @@ impl Player for CheckPlayer {
 
     fn reply(&mut self, alloc: Global, line: &[u8]) -> Result<Bytes, ReplyFault> {
         let phase = next_phase(alloc, self.phase.take(), line)?;
-        // What stood there before goes to `drop` whole, and isn't taken apart here.
+        // A call drops what stood there whole: else it is taken apart here.
         drop(self.phase.replace(phase));
         Ok(Bytes::new(alloc))
     }

@@ -159,7 +159,7 @@ impl ScheduleReader {
             events,
             told,
         } = self;
-        // They go to `drop` whole, and aren't taken apart here.
+        // Calls drop them whole: else they are taken apart here.
         drop(progress);
         drop(told);
         (header, events)

@@ -57,7 +57,7 @@ pub fn replay<S: Source, K: Sink>(
     let mut player: LinePlayer<HeaderLine, ScheduleReplay> = LinePlayer::new(HeaderLine {});
     let played = play(alloc, &mut player, input, out);
     let report = report_of(&player);
-    // Given away whole: else each way out would take it apart, field by field.
+    // A call drops it whole: else each way out takes it apart here.
     drop(player);
     match played {
         Ok(()) => Ok(report),

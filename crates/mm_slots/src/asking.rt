@@ -123,7 +123,7 @@ impl Parts {
         let writes = ask.write_step();
         let seat = &mut self.seat;
         match step(&ask, &mut seat.platform, call, &mut seat.keys) {
-            // Let go of as a whole: else each way out takes apart what was asked.
+            // A call drops what was asked whole: else each way out takes it apart here.
             Err(memory) => {
                 drop(asked);
                 self.register = *self.seat.platform.register();

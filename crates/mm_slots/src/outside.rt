@@ -53,7 +53,7 @@ impl Parts {
         platform.lose_power();
         platform.end_plan();
         self.register = *platform.register();
-        // Taken out as a whole: else all that may be in flight is taken apart here.
+        // A call drops it whole: else all that may be in flight is taken apart here.
         drop(self.flight.take());
     }
 }

@@ -60,7 +60,7 @@ pub fn transfer<S: Source, K: Sink>(
     let mut player: LinePlayer<FirstLine, TransferStage> = LinePlayer::new(FirstLine {});
     let played = play(alloc, &mut player, input, out);
     let report = report_of(&player);
-    // Let go before the ways part: else each way out lets go of all parts of both sides.
+    // A call drops it whole: else each way out takes it apart here.
     drop(player);
     match played {
         Ok(()) => Ok(report),
