@@ -1,1 +1,5 @@
+pub mod Above
 mod Below
+mod LineLemmas
+mod ReadingLemmas
+mod StreamLemmas

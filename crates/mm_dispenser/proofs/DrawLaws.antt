@@ -1,7 +1,7 @@
 -- Words that are drawn one after another.
 use Rattle.std.proofs.Common.{◌≡◌, ℕ, suc, ◌+◌, ◌-◌, ◌<◌, ◌%◌, ◌^◌, List, ◌++◌, refl, sym, ◌∙◌, ap, arith, append_assoc}
 use Rattle.rand_chacha.specs.ChaCha.{ChaCha, key_of, next_word}
-use Rattle.mm_base.specs.Limits.{last_position}
+use Rattle.mm_bytes.specs.Limits.{last_position}
 use Rattle.mm_dispenser.specs.Draws.{word_of, word_text, words_text}
 
 words_text-suc : (seed : List ℕ) (at next more n : ℕ) → more ≡ suc n → next ≡ at + 1

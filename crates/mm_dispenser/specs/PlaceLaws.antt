@@ -7,8 +7,8 @@ use Rattle.std.specs.Fmt.{decimal}
 use Rattle.std.specs.List.{list_all}
 use Rattle.std.proofs.lemmas.Bool.Decides.{nat_tests}
 use Rattle.std.proofs.lemmas.List.Splits.{slice_split_none, slice_split_at}
-use Rattle.mm_base.specs.Decimals.{decimal_number}
-use Rattle.mm_base.specs.DecimalLaws.{read_by_spelling}
+use Rattle.mm_bytes.specs.Decimals.{decimal_number}
+use Rattle.mm_bytes.specs.DecimalLaws.{read_by_spelling}
 use Rattle.mm_module.specs.LineLaws.{passes-decimal, list_all-get_or}
 use Rattle.mm_module.specs.TableLaws.{outputs_by, table_outputs}
 use Rattle.mm_module.specs.ValueLaws.{passes-encoded}

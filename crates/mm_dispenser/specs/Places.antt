@@ -1,6 +1,6 @@
 -- What a dispenser promises of a whole run: no place is told by two draws.
 use Rattle.std.specs.Prelude.{◌≡◌, ℕ, ◌+◌, ◌<◌, ◌≤◌, List, [], ◌∷◌, length, slice_get, Option, Some, None, option_map, option_and_then}
-use Rattle.mm_base.specs.Decimals.{decimal_number}
+use Rattle.mm_bytes.specs.Decimals.{decimal_number}
 use Rattle.mm_module.specs.Meaning.{outputs_from}
 use Rattle.mm_module.specs.Words.{words_of}
 use Rattle.mm_dispenser.specs.Table.{dispenser}

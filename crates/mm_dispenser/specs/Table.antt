@@ -2,9 +2,9 @@
 use Rattle.std.specs.Prelude.{ℕ, ◌+◌, ◌≤◌, ◌==◌, ◌&&◌, Bool, nat_le, List, [], ◌∷◌, ◌++◌, length, take, drop, codes, Option, Some, None}
 use Rattle.std.specs.Prelude.{is_some, unwrap_or, option_map, option_and_then, if◌then◌else◌}
 use Rattle.std.specs.Str.{bytes_eq}
-use Rattle.mm_base.specs.Decimals.{decimal_number}
-use Rattle.mm_base.specs.Fields.{eight_bytes}
-use Rattle.mm_base.specs.Limits.{last_position}
+use Rattle.mm_bytes.specs.Decimals.{decimal_number}
+use Rattle.mm_bytes.specs.Fields.{eight_bytes}
+use Rattle.mm_bytes.specs.Limits.{last_position}
 use Rattle.mm_module.specs.Bytes.{are_bytes}
 use Rattle.mm_module.specs.Meaning.{Meaning}
 use Rattle.mm_module.specs.Numbers.{number_of_eight_bytes}

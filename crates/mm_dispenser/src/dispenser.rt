@@ -6,7 +6,7 @@ ghost use Rattle.mm_dispenser.specs.Table.{IsDrawn, draw_of, request_of, state_a
 ghost use Rattle.mm_dispenser.specs.DispenserLaws.{dispenser_is_lawful};
 
 use crate::draws::draw;
-use mm_base::{Bytes, LAST_POSITION, Memory, bytes_of_u64, read_decimal};
+use mm_bytes::{Bytes, LAST_POSITION, Memory, bytes_of_u64, read_decimal};
 use mm_module::{Module, Stepped, Words, u64_of_bytes, value_in};
 use std::alloc::Global;
 

@@ -3,10 +3,10 @@
 ghost use Rattle.std.specs.Prelude.{◌≡◌, ◌+◌, ◌≤◌, ◌++◌, IfOk, OnOk};
 ghost use Rattle.std.specs.Int.{w32, to_be_bytes};
 ghost use Rattle.hex.specs.Hex.{encode_lower};
-ghost use Rattle.mm_base.specs.Limits.{last_position};
+ghost use Rattle.mm_bytes.specs.Limits.{last_position};
 ghost use Rattle.mm_dispenser.specs.Draws.{word_text, text_of_draw};
 
-use mm_base::{Bytes, Memory, put_decimal};
+use mm_bytes::{Bytes, Memory, put_decimal};
 use rand_chacha::ChaCha20Rng;
 use rand_core::SeedableRng;
 use rand_core::utils::NextWord;

@@ -3,7 +3,7 @@
 ghost use Rattle.mm_dispenser.specs.DispenserListing.{dispenser_listing, dispenser_is_listed};
 
 use crate::dispenser::Dispenser;
-use mm_base::{Bytes, Memory, put_numbered};
+use mm_bytes::{Bytes, Memory, put_numbered};
 use mm_listing::Listed;
 
 impl Listed for Dispenser {

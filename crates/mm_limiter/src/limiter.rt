@@ -6,7 +6,7 @@ ghost use Rattle.mm_limiter.specs.Table.{IsShortSecret, is_secret, is_tries, is_
 ghost use Rattle.mm_limiter.specs.Views.{as_state, as_request, as_says};
 ghost use Rattle.mm_limiter.specs.LimiterLaws.{limiter_is_lawful, limiter_is_short};
 
-use mm_base::{Bytes, Memory, read_decimal};
+use mm_bytes::{Bytes, Memory, read_decimal};
 use mm_module::{Module, Short, Stepped, Words, are_visible, text_and_number};
 use std::alloc::Global;
 

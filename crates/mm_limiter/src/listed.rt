@@ -3,7 +3,7 @@
 ghost use Rattle.mm_limiter.specs.LimiterListing.{limiter_listing, limiter_is_listed};
 
 use crate::limiter::Limiter;
-use mm_base::{Bytes, Memory, put_numbered};
+use mm_bytes::{Bytes, Memory, put_numbered};
 use mm_listing::Listed;
 
 impl Listed for Limiter {

@@ -3,7 +3,7 @@
 ghost use Rattle.mm_listing.specs.CounterListing.{counter_listing, counter_is_listed};
 
 use crate::listed::Listed;
-use mm_base::{Bytes, Memory, put_numbered};
+use mm_bytes::{Bytes, Memory, put_numbered};
 use mm_module::Counter;
 
 impl Listed for Counter {

@@ -21,11 +21,6 @@ batch_text (Many text) = text
 abbrev pub size_of : Batch → ℕ
 size_of batch = length (members_of batch)
 
--- a batch that its members fix: a text with no TAB is one request
-abbrev pub IsBatch : Batch → Type 0
-IsBatch (One request) = Unit {0}
-IsBatch (Many text) = IsTrue (list_any (λ byte. byte == 9) text)
-
 -- the same members as such a batch
 abbrev pub normal_batch : Batch → Batch
 normal_batch (One request) = One request

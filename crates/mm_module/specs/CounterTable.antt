@@ -3,8 +3,8 @@ use Rattle.std.specs.Prelude.{ℕ, ◌+◌, ◌^◌, ◌==◌, ◌&&◌, Bool, n
 use Rattle.std.specs.Prelude.{option_map, if◌then◌else◌}
 use Rattle.std.specs.Fmt.{decimal}
 use Rattle.std.specs.Str.{bytes_eq}
-use Rattle.mm_base.specs.Decimals.{decimal_number}
-use Rattle.mm_base.specs.Fields.{eight_bytes}
+use Rattle.mm_bytes.specs.Decimals.{decimal_number}
+use Rattle.mm_bytes.specs.Fields.{eight_bytes}
 use Rattle.mm_module.specs.Bytes.{are_bytes}
 use Rattle.mm_module.specs.Numbers.{number_of_eight_bytes}
 use Rattle.mm_module.specs.Words.{words_of}

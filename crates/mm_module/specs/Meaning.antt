@@ -1,6 +1,6 @@
 -- What a module is: a small program whose states, requests and outputs are byte lists.
 use Rattle.std.specs.Prelude.{◌≢◌, ℕ, ◌≤◌, ◌<◌, List, [], ◌∷◌, length, fold, Bool, IsTrue, All}
-use Rattle.mm_base.specs.Limits.{limit_of, longest_request}
+use Rattle.mm_bytes.specs.Limits.{limit_of, longest_request}
 
 -- an id, a first state, and the state and the output that follow a state and a request
 pub record Meaning : Type 0 where

@@ -1,6 +1,6 @@
 -- The laws of a module by a table: what a request does to a state that is no bytes.
 use Rattle.std.proofs.Common.{◌≡◌, ℕ, ◌≤◌, List, [], ◌∷◌, length, Bool, true, IsTrue, refl, sym, ◌∙◌, ap, subst, arith, rules}
-use Rattle.mm_base.specs.Limits.{limit_of, longest_request}
+use Rattle.mm_bytes.specs.Limits.{limit_of, longest_request}
 use Rattle.mm_module.specs.Bytes.{are_bytes}
 use Rattle.mm_module.specs.LineLaws.{All-are_bytes, IsText, IsLine-text}
 use Rattle.mm_module.specs.Meaning.{Meaning, IsLawful, IsShort, outputs_from}

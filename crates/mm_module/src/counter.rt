@@ -8,7 +8,7 @@ ghost use Rattle.mm_module.specs.CounterLaws.{counter_is_lawful, counter_is_shor
 use crate::modules::{Module, Short, Stepped};
 use crate::texts::u64_of_bytes;
 use crate::words::Words;
-use mm_base::{Bytes, Memory, bytes_of_u64, put_decimal, read_decimal};
+use mm_bytes::{Bytes, Memory, bytes_of_u64, put_decimal, read_decimal};
 use std::alloc::Global;
 
 /// A value of 64 bits, 0 at first. Its state is the value in 8 bytes, the greatest first.

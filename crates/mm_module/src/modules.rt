@@ -3,7 +3,7 @@
 ghost use Rattle.std.specs.Prelude.{◌≡◌, ◌↔◌, ◌++◌, IfOk, OnOk, IsTrue};
 ghost use Rattle.mm_module.specs.Meaning.{Meaning, IsLine, IsLawful, IsShort};
 
-use mm_base::{Bytes, LONGEST_REQUEST, Memory};
+use mm_bytes::{Bytes, LONGEST_REQUEST, Memory};
 use std::alloc::Global;
 
 /// What one request gave: the state after it, and what the module says.

@@ -6,7 +6,7 @@ ghost use Rattle.std.specs.List.{list_all};
 ghost use Rattle.mm_module.specs.Numbers.{number_of_eight_bytes};
 ghost use Rattle.mm_module.specs.Visible.{is_visible};
 
-use mm_base::{Bytes, Memory, put_decimal};
+use mm_bytes::{Bytes, Memory, put_decimal};
 use std::alloc::Global;
 
 /// The number in 8 bytes, the greatest first.

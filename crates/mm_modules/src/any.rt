@@ -6,7 +6,7 @@ ghost use Rattle.std.specs.Str.{bytes_eq};
 ghost use Rattle.mm_modules.specs.Modules.{any_is_listed, listing_of, meaning_of, module_of_name, module_of_id, name_of, names_text};
 ghost use Rattle.mm_modules.specs.ModulesLaws.{any_is_lawful};
 
-use mm_base::{Bytes, Memory};
+use mm_bytes::{Bytes, Memory};
 use mm_dispenser::Dispenser;
 use mm_limiter::Limiter;
 use mm_listing::Listed;

@@ -1,7 +1,7 @@
 -- What a caller of a read, an extension and a write knows afterwards.
 use Rattle.std.proofs.Common.{◌≡◌, ℕ, Bool, true, false, List, [], ◌++◌, Option, None, Some, map, refl, sym, ◌∙◌, ap, arith, append_assoc}
 use Rattle.std.proofs.lemmas.List.{append-nil, map-append}
-use Rattle.mm_base.specs.Faults.{CountRose}
+use Rattle.mm_bytes.specs.Faults.{CountRose}
 use Rattle.mm_platform.specs.declared.fault.StepFault.{StepFault}
 use Rattle.mm_platform.specs.Standing.{Item, foreign_item, Standing}
 use Rattle.mm_platform.specs.Steps.{ReadCell, WriteCell, ExtendRegister, items_beside, cell_after, items_after, DeviceStepEnds, StepGoes}

@@ -1,7 +1,7 @@
 -- What a caller of several steps knows afterwards. Its steps: a read of the cell, an extension by a
 -- value, a write of the cell.
 use Rattle.std.specs.Prelude.{◌≡◌, ℕ, Bool, true, List, [], ◌∷◌, Option, None, Some}
-use Rattle.mm_base.specs.Faults.{CountRose}
+use Rattle.mm_bytes.specs.Faults.{CountRose}
 use Rattle.mm_platform.specs.declared.fault.StepFault.{StepFault}
 use Rattle.mm_platform.specs.Standing.{Standing}
 use Rattle.mm_platform.specs.Steps.{Act, ReadCell, WriteCell, ExtendRegister, items_beside, cell_after, items_after}

@@ -6,7 +6,7 @@ use Rattle.mm_platform.specs.declared.plan.Stop.TheVariants.{Quiet}
 use Rattle.mm_platform.specs.Standing.{Plan, Standing, plan_after}
 use Rattle.mm_platform.specs.Steps.{Act, ExtendRegister, items_beside, cell_after, items_after, writes_after, fault_by_plan}
 use Rattle.mm_platform.specs.Steps.{is_made_by_plan, is_on_by_plan, values_by_plan, faults_after}
-use Rattle.mm_base.specs.Faults.{next_count}
+use Rattle.mm_bytes.specs.Faults.{next_count}
 
 -- nothing goes wrong, and nobody else extends the register
 abbrev pub quiet_plan : Plan

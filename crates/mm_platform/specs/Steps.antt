@@ -2,7 +2,7 @@
 use Rattle.std.specs.Prelude.{◌≡◌, ℕ, ◌+◌, ◌≤◌, ◌==◌, Bool, true, false, not, List, [], ◌∷◌, ◌++◌, Option, None, Some, IsSome, map}
 use Rattle.std.specs.Prelude.{if◌then◌else◌}
 use Rattle.std.specs.Option.{option_map}
-use Rattle.mm_base.specs.Faults.{next_count, CountRose}
+use Rattle.mm_bytes.specs.Faults.{next_count, CountRose}
 use Rattle.mm_platform.specs.declared.fault.StepFault.{StepFault}
 use Rattle.mm_platform.specs.declared.fault.StepFault.TheVariants.{Failed, Off}
 use Rattle.mm_platform.specs.declared.plan.Stop.{Stop}

@@ -6,7 +6,7 @@ ghost use Rattle.mm_platform.specs.Standing.{Item, Standing, item_values, regist
 ghost use Rattle.mm_platform.specs.Steps.{ReadCell, WriteCell, ReadRegister, ResetRegister, ExtendRegister, StepGoes, RoomGrows, PowerCycles};
 
 use crate::fault::StepFault;
-use mm_base::{CELL_LENGTH, Memory};
+use mm_bytes::{CELL_LENGTH, Memory};
 use mm_digest::Digest;
 
 /// The devices of one platform. It has no call: it carries what stands on the platform, so that a

@@ -4,7 +4,7 @@ ghost use Rattle.std.specs.Prelude.{◌≡◌, ◌+◌, ◌<◌, ◌≤◌, [], 
 ghost use Rattle.mm_platform.specs.Standing.{item_values, register_after};
 ghost use Rattle.mm_platform.specs.Entries.{item_of, items_of, is_own};
 
-use mm_base::Memory;
+use mm_bytes::Memory;
 use mm_digest::{Digest, extended, zero};
 use std::alloc::Global;
 

@@ -2,7 +2,7 @@
 
 ghost use Rattle.std.specs.Prelude.{◌≡◌, ◌+◌, ◌<◌, ◌≤◌, Some, None, [], ◌∷◌, ◌++◌, map, OnOk, OnErr, IfOk, Ok, count_by, vec_len, vec_capacity};
 ghost use Rattle.std.specs.Option.{option_map};
-ghost use Rattle.mm_base.specs.Faults.{next_count};
+ghost use Rattle.mm_bytes.specs.Faults.{next_count};
 ghost use Rattle.mm_platform.specs.Steps.{items_beside, values_by_plan};
 ghost use Rattle.mm_platform.specs.Standing.{Standing, Plan, foreign_item, next_step, plan_after, item_values, register_after};
 ghost use Rattle.mm_platform.specs.StandingWords.{due_values};
@@ -15,7 +15,7 @@ use crate::extensions::{Entry, Extensions};
 use crate::fate::Fate;
 use crate::fault::StepFault;
 use crate::plan::{Meddle, Stop};
-use mm_base::{CELL_LENGTH, Memory};
+use mm_bytes::{CELL_LENGTH, Memory};
 use mm_digest::Digest;
 use std::alloc::Global;
 use std::marker::Model;

@@ -5,7 +5,7 @@ use Rattle.std.proofs.Common.{refl, sym, arith, subst}
 use Rattle.std.specs.declared.cmp.Ordering.TheVariants.{Less}
 use Rattle.std.specs.List.{list_all}
 use Rattle.std.proofs.lemmas.Bool.Decides.{nat_tests}
-use Rattle.mm_base.specs.Limits.{limit_of}
+use Rattle.mm_bytes.specs.Limits.{limit_of}
 use Rattle.mm_module.specs.LineLaws.{and-true, IsText, is_unbroken-decimal, length-decimal}
 use Rattle.mm_module.specs.Meaning.{IsLawful, IsShort}
 use Rattle.mm_module.specs.TableLaws.{Table, IsTable, IsOutcome, table_by, table_is_lawful, table_is_short}

@@ -8,7 +8,7 @@ use Rattle.std.proofs.lemmas.Bool.Decides.{nat_tests}
 use Rattle.std.proofs.lemmas.List.{take-append-drop, length-take-le, length-drop}
 use Rattle.std.proofs.lemmas.List.Folds.{list_all-append}
 use Rattle.std.proofs.lemmas.Nat.{be_bytes_2, from_be_bytes-to_be_bytes_2}
-use Rattle.mm_base.specs.Fields.{eight_bytes}
+use Rattle.mm_bytes.specs.Fields.{eight_bytes}
 use Rattle.mm_module.specs.Bytes.{is_byte, are_bytes}
 use Rattle.mm_module.specs.LineLaws.{and-true, and-both, is_byte-rem}
 use Rattle.mm_module.specs.Numbers.{number_of_eight_bytes}

@@ -8,8 +8,8 @@ use Rattle.std.specs.Int.{w16, to_be_bytes, from_be_bytes}
 use Rattle.std.specs.List.{list_all}
 use Rattle.std.specs.Ordering.{nat_cmp, is_lt, match_ordering}
 use Rattle.std.specs.Str.{bytes_eq}
-use Rattle.mm_base.specs.Decimals.{decimal_number}
-use Rattle.mm_base.specs.Fields.{eight_bytes}
+use Rattle.mm_bytes.specs.Decimals.{decimal_number}
+use Rattle.mm_bytes.specs.Fields.{eight_bytes}
 use Rattle.mm_module.specs.Bytes.{are_bytes}
 use Rattle.mm_module.specs.Numbers.{number_of_eight_bytes}
 use Rattle.mm_module.specs.Visible.{is_visible}

@@ -4,7 +4,7 @@ ghost use Rattle.std.specs.Prelude.{◌≡◌, ◌++◌, ◌≤◌, ℕ, length,
 ghost use Rattle.mm_quota.specs.Table.{is_name, is_account, account_bytes, account_at};
 ghost use Rattle.mm_quota.specs.Views.{as_account, front_account};
 
-use mm_base::{Bytes, Memory, bytes_of_u64};
+use mm_bytes::{Bytes, Memory, bytes_of_u64};
 use mm_module::{are_visible, u64_of_bytes};
 
 /// The greatest limit of an account, 2^48.

@@ -6,7 +6,7 @@ ghost use Rattle.mm_quota.specs.LedgerListings.{ledger_is_listed, ledger_listing
 ghost use Rattle.mm_quota.specs.Requests.{account_name, account_request, amount_text};
 
 use crate::quota::Accounts;
-use mm_base::{Bytes, Memory, put_numbered};
+use mm_bytes::{Bytes, Memory, put_numbered};
 use mm_listing::Listed;
 
 fn put_account_request(into: &mut Bytes, choice: u32) -> Result<(), Memory>

@@ -11,7 +11,7 @@ ghost use Rattle.mm_quota.specs.Ids.{small_ledger, small_ledger_is_lawful, small
 use crate::account::{Account, put_account};
 use crate::place::{AccountPlace, parts, state_is_spelled, sum_of};
 use crate::request::{Output, QuotaAction, Request, decision, read_request, text};
-use mm_base::{Bytes, Memory};
+use mm_bytes::{Bytes, Memory};
 use mm_module::{Module, Short, Stepped};
 use std::alloc::Global;
 

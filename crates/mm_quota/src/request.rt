@@ -7,7 +7,7 @@ ghost use Rattle.mm_quota.specs.Table.{action_of, request_of, decision_of, text_
 ghost use Rattle.mm_quota.specs.Views.{as_account, as_action, as_request, as_says};
 
 use crate::account::{Account, GREATEST_LIMIT, name_is_formed};
-use mm_base::{Bytes, Memory, read_decimal};
+use mm_bytes::{Bytes, Memory, read_decimal};
 use mm_module::{Words, text_and_number};
 use std::alloc::Global;
 

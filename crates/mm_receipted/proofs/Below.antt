@@ -2,7 +2,7 @@
 pub use Rattle.std.specs.Prelude.{◌⊎◌, IsTrue, Ok, slice_get}
 pub use Rattle.std.proofs.Common.{◌++◌, ◌+◌, ◌<◌, ◌^◌, ◌∙◌, ◌∷◌, ◌≡◌, ◌≢◌, ◌≤◌, [], ap, arith, Bool, drop, false, inl, inr, length}
 pub use Rattle.std.proofs.Common.{length-append, List, refl, rules, Some, subst, suc, sym, take, true, ℕ}
-pub use Rattle.mm_base.specs.Limits.{last_position, longest_request}
+pub use Rattle.mm_bytes.specs.Limits.{last_position, longest_request}
 pub use Rattle.mm_module.specs.Meaning.{Meaning, outputs_from}
 pub use Rattle.mm_module.specs.TableLaws.{is-true}
 pub use Rattle.mm_receipted.specs.ReceiptedLaws.{IsKept, kept_of-IsKept, kept_of-spelling_of, outcome_of-IsKept, SpellsKept}

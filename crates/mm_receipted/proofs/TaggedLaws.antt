@@ -8,8 +8,8 @@ use Rattle.std.specs.List.{AllByRecursion}
 use Rattle.std.proofs.lemmas.Bool.Decides.{nat_tests}
 use Rattle.std.proofs.lemmas.List.{drop-drop, take-append-drop}
 use Rattle.std.proofs.lemmas.Slice.Eq.{bytes_eq-Decides}
-use Rattle.mm_base.specs.Fields.{eight_bytes, four_bytes}
-use Rattle.mm_base.specs.FieldLaws.{length-eight_bytes, length-four_bytes, eight_bytes-injective, four_bytes-injective, append-injective}
+use Rattle.mm_bytes.specs.Fields.{eight_bytes, four_bytes}
+use Rattle.mm_bytes.specs.FieldLaws.{length-eight_bytes, length-four_bytes, eight_bytes-injective, four_bytes-injective, append-injective}
 use Rattle.mm_receipted.specs.Receipts.{receipt_front, receipt_message}
 use Rattle.mm_receipted.specs.TaggedMessages.{IsTaggedBy, IsTagged, IsCounted, ReceiptsAreTrue, ReceiptsDoNotClash}
 

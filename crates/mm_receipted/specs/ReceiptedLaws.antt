@@ -7,8 +7,8 @@ use Rattle.std.proofs.lemmas.List.{length-take-le, length-drop}
 use Rattle.std.proofs.lemmas.List.Folds.{list_all-append}
 use Rattle.hex.specs.Hex.{lower_digits}
 use Rattle.hex.proofs.HexLemmas.{length-encode_with}
-use Rattle.mm_base.specs.Fields.{eight_bytes}
-use Rattle.mm_base.specs.Limits.{last_position, limit_of}
+use Rattle.mm_bytes.specs.Fields.{eight_bytes}
+use Rattle.mm_bytes.specs.Limits.{last_position, limit_of}
 use Rattle.mm_digest.specs.Hmac.{hmac_of}
 use Rattle.mm_digest.specs.LengthLaws.{length-hmac_of}
 use Rattle.mm_module.specs.Bytes.{is_byte, are_bytes}

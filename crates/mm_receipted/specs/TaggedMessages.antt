@@ -1,7 +1,7 @@
 -- What receipts prove of a run.
 use Rattle.std.specs.Prelude.{◌≡◌, ◌≢◌, ℕ, ◌+◌, ◌^◌, ◌<◌, ◌≤◌, List, [], ◌∷◌, length, drop, slice_get, Some, Ok, ◌⊎◌}
 use Rattle.std.specs.List.{AllByRecursion}
-use Rattle.mm_base.specs.Limits.{last_position, longest_request}
+use Rattle.mm_bytes.specs.Limits.{last_position, longest_request}
 use Rattle.mm_module.specs.Meaning.{Meaning, outputs_from}
 use Rattle.mm_receipted.specs.Receipts.{receipt_message, check_of_receipt}
 use Rattle.mm_receipted.specs.Table.{ReceiptState, outcome_of, first_receipt_state, receipted_module}

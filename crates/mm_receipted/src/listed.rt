@@ -3,7 +3,7 @@
 ghost use Rattle.mm_receipted.specs.ReceiptListing.{receipt_listing, receipt_is_listed};
 
 use crate::receipted::Receipted;
-use mm_base::{Bytes, Memory};
+use mm_bytes::{Bytes, Memory};
 use mm_listing::Listed;
 use mm_module::Short;
 

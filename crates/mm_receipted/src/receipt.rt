@@ -3,10 +3,10 @@
 ghost use Rattle.std.specs.Prelude.{◌≡◌, ◌≤◌, ◌<◌, ℕ, List, length, IfOk, option_map};
 ghost use Rattle.std.specs.List.{list_all};
 ghost use Rattle.hex.specs.Hex.{encode_lower};
-ghost use Rattle.mm_base.specs.Limits.{longest_request};
+ghost use Rattle.mm_bytes.specs.Limits.{longest_request};
 ghost use Rattle.mm_receipted.specs.Receipts.{is_lower_digit, receipt_front, digits_of, receipt_of, receipt_parts, check_of_receipt};
 
-use mm_base::{Bytes, Memory, bytes_of_u32, bytes_of_u64};
+use mm_bytes::{Bytes, Memory, bytes_of_u32, bytes_of_u64};
 use mm_digest::{Digest, HmacKey};
 use std::alloc::Global;
 use thiserror::Error;

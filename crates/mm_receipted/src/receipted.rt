@@ -1,7 +1,7 @@
 //! A module whose outputs are receipts.
 
 ghost use Rattle.std.specs.Prelude.{◌≡◌, ◌+◌, ◌++◌, ◌<◌, ◌≤◌, None, Some, IfOk, OnOk, IsTrue, length};
-ghost use Rattle.mm_base.specs.Limits.{last_position};
+ghost use Rattle.mm_bytes.specs.Limits.{last_position};
 ghost use Rattle.mm_module.specs.Meaning.{IsLine};
 ghost use Rattle.mm_module.specs.Words.{words_of};
 ghost use Rattle.mm_receipted.specs.Table.{key_of_words, keyed_text, outcome_without_key, receipted_module, outcome_under_key, key_bytes, key_in, is_keyed, is_front, receipt_state_after, receipt_state_in, spelling_of, outcome_of};
@@ -9,7 +9,7 @@ ghost use Rattle.mm_receipted.specs.Views.{kept_state_of};
 ghost use Rattle.mm_receipted.specs.ReceiptedLaws.{receipted_is_lawful};
 
 use crate::receipt::receipt;
-use mm_base::{Bytes, LAST_POSITION, Memory, bytes_of_u64};
+use mm_bytes::{Bytes, LAST_POSITION, Memory, bytes_of_u64};
 use mm_module::{Module, Short, Stepped, Words, u64_of_bytes, value_in};
 use std::alloc::Global;
 

@@ -1,7 +1,7 @@
 -- What a body in code says, as plain data, and what reading one gives.
 use Rattle.std.specs.Prelude.{◌≡◌, ◌≢◌, ◌+◌, ◌<◌, ◌≤◌, ◌^◌, ℕ, List, ◌++◌, length, slice_index}
-use Rattle.mm_base.specs.Fields.{eight_bytes, four_bytes}
-use Rattle.mm_base.specs.Limits.{last_position, limit_of}
+use Rattle.mm_bytes.specs.Fields.{eight_bytes, four_bytes}
+use Rattle.mm_bytes.specs.Limits.{last_position, limit_of}
 use Rattle.mm_digest.specs.declared.variant.Variant.{Variant}
 use Rattle.mm_digest.specs.declared.variant.Variant.TheVariants.{Basic, Opt}
 use Rattle.mm_digest.specs.Messages.{variant_byte}

@@ -1,7 +1,7 @@
 -- The bytes of the non-volatile cell.
 use Rattle.std.specs.Prelude.{◌≡◌, ◌≢◌, ◌==◌, ℕ, Bool, true, false, List, ◌∷◌, ◌++◌, length, replicate, Result, Ok, Err}
 use Rattle.std.specs.Prelude.{take, drop, slice_index}
-use Rattle.mm_base.specs.Limits.{cell_length}
+use Rattle.mm_bytes.specs.Limits.{cell_length}
 use Rattle.mm_digest.specs.declared.digest.Digest.{Digest}
 use Rattle.mm_digest.specs.declared.variant.Variant.{Variant}
 use Rattle.mm_digest.specs.declared.variant.Variant.TheVariants.{Basic, Opt}

@@ -12,7 +12,7 @@ use Rattle.mm_seal.specs.declared.cell.CellFault.{CellFault}
 use Rattle.mm_seal.specs.declared.cell.CellFault.TheVariants.{Blank, Cell as Unspelled}
 use Rattle.mm_seal.specs.Fields.{version_of}
 use Rattle.mm_seal.specs.Cell.{IsCell, IsSpelledWith, ReadsCell, cell_at, flag_byte, cell_spelling, blank_cell}
-use Rattle.mm_base.specs.FieldLaws.{append-injective}
+use Rattle.mm_bytes.specs.FieldLaws.{append-injective}
 
 pub variant_byte-injective : (v w : Variant) → variant_byte v ≡ variant_byte w → v ≡ w
 variant_byte-injective Basic Basic e = refl

@@ -8,19 +8,19 @@ use Rattle.std.proofs.lemmas.Bool.Decides.{nat_tests}
 use Rattle.std.proofs.lemmas.List.{length-take}
 use Rattle.std.proofs.lemmas.Slice.Eq.{bytes_eq-Decides}
 use Rattle.std.proofs.lemmas.Nat.{from_be_bytes-to_be_bytes_8}
-use Rattle.mm_base.specs.Limits.{last_position, limit_of}
+use Rattle.mm_bytes.specs.Limits.{last_position, limit_of}
 use Rattle.mm_digest.specs.declared.variant.Variant.{Variant}
 use Rattle.mm_seal.specs.declared.snapshot.PartsFault.{PartsFault}
 use Rattle.mm_seal.specs.declared.snapshot.PartsFault.TheVariants.{Form, Kind}
 use Rattle.mm_seal.specs.declared.snapshot.Place.{Place}
 use Rattle.mm_seal.specs.declared.snapshot.Place.TheVariants.{Basic, Opt}
-use Rattle.mm_base.specs.Fields.{eight_bytes, four_bytes}
+use Rattle.mm_bytes.specs.Fields.{eight_bytes, four_bytes}
 use Rattle.mm_seal.specs.Body.{place_length}
 use Rattle.mm_seal.specs.CellLaws.{variant_byte-injective}
 use Rattle.mm_seal.specs.Snapshot.{Content, Snapshot, IsPlace, SpellsSnapshot, IsOfKind, IsNoSnapshot, ReadsParts, place_spelling}
 use Rattle.mm_seal.specs.Snapshot.{snapshot_front, snapshot_spelling, variant_of}
 use Rattle.mm_seal.specs.SnapshotWords.{front_head}
-use Rattle.mm_base.specs.FieldLaws.{length-eight_bytes, length-four_bytes}
+use Rattle.mm_bytes.specs.FieldLaws.{length-eight_bytes, length-four_bytes}
 use Rattle.mm_seal.specs.SnapshotLaws.{length-snapshot_front, reads_parts-same}
 use Rattle.mm_seal.specs.Parts.{digest_at, fields_of, is_spelled_by, is_of_kind, parts_of}
 

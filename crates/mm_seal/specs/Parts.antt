@@ -3,7 +3,7 @@ use Rattle.std.specs.Prelude.{ℕ, ◌+◌, ◌-◌, ◌==◌, ◌&&◌, Bool, L
 use Rattle.std.specs.Prelude.{slice_index}
 use Rattle.std.specs.Int.{w64, from_be_bytes}
 use Rattle.std.specs.Str.{bytes_eq}
-use Rattle.mm_base.specs.Limits.{last_position, limit_of}
+use Rattle.mm_bytes.specs.Limits.{last_position, limit_of}
 use Rattle.mm_digest.specs.declared.digest.Digest.{Digest}
 use Rattle.mm_digest.specs.declared.variant.Variant.{Variant}
 use Rattle.mm_digest.specs.Messages.{variant_byte}

@@ -1,6 +1,6 @@
 -- Words of the laws and proofs, each of which says a thing of Parts in short.
 use Rattle.std.specs.Prelude.{◌==◌, ◌&&◌, Bool, length, nat_le}
-use Rattle.mm_base.specs.Limits.{last_position, limit_of}
+use Rattle.mm_bytes.specs.Limits.{last_position, limit_of}
 use Rattle.mm_digest.specs.declared.variant.Variant.{Variant}
 use Rattle.mm_digest.specs.Messages.{variant_byte}
 use Rattle.mm_seal.specs.Snapshot.{Content}

@@ -1,6 +1,6 @@
 -- The bytes of a snapshot, and its seal.
 use Rattle.std.specs.Prelude.{◌≡◌, ◌≢◌, ◌≤◌, ℕ, List, [], ◌∷◌, ◌++◌, length, nat_lt, Result, Ok, Err, if◌then◌else◌}
-use Rattle.mm_base.specs.Limits.{last_position, limit_of}
+use Rattle.mm_bytes.specs.Limits.{last_position, limit_of}
 use Rattle.mm_digest.specs.declared.variant.Variant.{Variant}
 use Rattle.mm_digest.specs.declared.variant.Variant.TheVariants as variants
 use Rattle.mm_digest.specs.Messages.{variant_byte}
@@ -11,7 +11,7 @@ use Rattle.mm_seal.specs.declared.snapshot.PartsFault.{PartsFault}
 use Rattle.mm_seal.specs.declared.snapshot.PartsFault.TheVariants.{Form, Kind}
 use Rattle.mm_seal.specs.declared.snapshot.OpenFault.{OpenFault}
 use Rattle.mm_seal.specs.declared.snapshot.OpenFault.TheVariants as opening
-use Rattle.mm_base.specs.Fields.{eight_bytes, four_bytes}
+use Rattle.mm_bytes.specs.Fields.{eight_bytes, four_bytes}
 
 abbrev pub variant_of : Place → Variant
 variant_of (Basic summary) = variants.Basic

@@ -5,7 +5,7 @@ ghost use Rattle.mm_seal.specs.Cell.{FitsVariant, cell_at, cell_spelling, IsNoCe
 ghost use Rattle.mm_seal.specs.CellLaws.{head_of_cell};
 
 use crate::field::{digest_at, version};
-use mm_base::CELL_LENGTH;
+use mm_bytes::CELL_LENGTH;
 use mm_digest::{Digest, Variant};
 use thiserror::Error;
 

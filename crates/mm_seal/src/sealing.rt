@@ -3,7 +3,7 @@
 ghost use Rattle.std.specs.Prelude.{◌≡◌, IfSome, IsSome};
 
 use crate::snapshot::{Body, Offered, front, with_tag};
-use mm_base::{Bytes, Memory};
+use mm_bytes::{Bytes, Memory};
 use mm_digest::{Digest, HmacKey};
 use std::alloc::Global;
 use std::marker::Model;
@@ -45,7 +45,7 @@ impl Model for SealingKey {
 
 impl SealingKey {
     ghost use Rattle.std.specs.Prelude.{◌≡◌, ◌≤◌, ◌↔◌, [], ◌++◌, IsTrue, IfOk, IfSome, length};
-    ghost use Rattle.mm_base.specs.Limits.{last_position, limit_of};
+    ghost use Rattle.mm_bytes.specs.Limits.{last_position, limit_of};
     ghost use Rattle.mm_digest.specs.Hmac.{hmac_of};
     ghost use Rattle.mm_seal.specs.Body.{content_of};
     ghost use Rattle.mm_seal.specs.Snapshot.{sealed_snapshot_of, tag_of};

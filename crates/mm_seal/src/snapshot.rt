@@ -1,7 +1,7 @@
 //! Snapshots: a place, a position and a state, sealed under the cell's key.
 
 ghost use Rattle.std.specs.Prelude.{◌≡◌, ◌≤◌, ◌<◌, ◌++◌, ◌↔◌, IsTrue, IfOk, MatchOption, OnOk, OnErr, length};
-ghost use Rattle.mm_base.specs.Limits.{last_position, limit_of};
+ghost use Rattle.mm_bytes.specs.Limits.{last_position, limit_of};
 ghost use Rattle.mm_digest.specs.Hmac.{hmac_of};
 ghost use Rattle.mm_seal.specs.Snapshot.{variant_of, place_spelling, IsPlace, snapshot_front, sealed_snapshot_of, IsOfKind, IsNoSnapshot, SpellsSnapshot, ReadsParts, OpensOffer, HasOneSpelling};
 ghost use Rattle.mm_seal.specs.SnapshotWords.{front_head};
@@ -10,7 +10,7 @@ ghost use Rattle.mm_seal.specs.Body.{content_of, SpellsNoContent, SpellsContent,
 
 use crate::field::{digest_at, version};
 use crate::sealing::SealingKey;
-use mm_base::{Bytes, LAST_POSITION, Memory, bytes_of_u32, bytes_of_u64, split_u32, split_u64};
+use mm_bytes::{Bytes, LAST_POSITION, Memory, bytes_of_u32, bytes_of_u64, split_u32, split_u64};
 use mm_digest::{Digest, Variant};
 use std::alloc::Global;
 use std::marker::Model;

@@ -3,7 +3,7 @@
 ghost use Rattle.mm_tally.specs.TallyListing.{tally_listing, tally_is_listed};
 
 use crate::tally::Tally;
-use mm_base::{Bytes, Memory};
+use mm_bytes::{Bytes, Memory};
 use mm_listing::Listed;
 
 impl Listed for Tally {

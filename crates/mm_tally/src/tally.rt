@@ -4,7 +4,7 @@ ghost use Rattle.std.specs.Prelude.{◌≡◌, IsTrue};
 ghost use Rattle.mm_tally.specs.Table.{count_after, count_in, is_mark, tally};
 ghost use Rattle.mm_tally.specs.TallyLaws.{tally_is_lawful};
 
-use mm_base::{Bytes, Memory, put_decimal};
+use mm_bytes::{Bytes, Memory, put_decimal};
 use mm_module::{Module, Stepped};
 use std::alloc::Global;
 

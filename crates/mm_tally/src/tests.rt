@@ -1,5 +1,5 @@
 use super::*;
-use mm_base::Bytes;
+use mm_bytes::Bytes;
 use mm_listing::Listed;
 use mm_module::Module;
 use std::test::Fail;

@@ -6,8 +6,8 @@ pub use Rattle.std.proofs.Common.{inr, length, length-append, length-drop, List,
 pub use Rattle.std.proofs.Common.{take, true, zero, ℕ}
 pub use Rattle.std.proofs.lemmas.Bool.Decides.{nat_tests}
 pub use Rattle.std.proofs.lemmas.List.{drop-drop, get_or-append-add, length-take, length-take-le, take-append-drop}
-pub use Rattle.mm_base.specs.Faults.{next_count, CountRose}
-pub use Rattle.mm_base.specs.Limits.{cell_length}
+pub use Rattle.mm_bytes.specs.Faults.{next_count, CountRose}
+pub use Rattle.mm_bytes.specs.Limits.{cell_length}
 pub use Rattle.mm_platform.specs.CallLaws.{beside-beside, beside-none}
 pub use Rattle.mm_platform.specs.Raw.{LeavesRest, range_of, ReadsRaw, bytes_with_part, WritesRaw}
 pub use Rattle.mm_platform.specs.Standing.{Plan, Standing}

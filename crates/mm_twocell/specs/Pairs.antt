@@ -1,7 +1,7 @@
 -- Two cells of 104 bytes and a selector, seen as one cell.
 use Rattle.std.specs.Prelude.{◌≡◌, ℕ, ◌*◌, ◌%◌, Bool, List, take, drop, slice_index, Option, None}
 use Rattle.std.specs.Option.{option_map}
-use Rattle.mm_base.specs.Limits.{cell_length}
+use Rattle.mm_bytes.specs.Limits.{cell_length}
 use Rattle.mm_platform.specs.declared.fault.StepFault.{StepFault}
 use Rattle.mm_platform.specs.Standing.{Standing}
 use Rattle.mm_platform.specs.Steps.{WriteCell, cell_after, DeviceStepEnds}

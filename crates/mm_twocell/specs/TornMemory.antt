@@ -1,7 +1,7 @@
 -- A memory of 209 bytes, of which one call fails where it is told to.
 use Rattle.std.specs.Prelude.{◌≡◌, ℕ, ◌-◌, ◌==◌, Bool, true, List, [], length, take, replicate, Option, None, Some, if◌then◌else◌}
 use Rattle.std.specs.Option.{option_map}
-use Rattle.mm_base.specs.Faults.{next_count}
+use Rattle.mm_bytes.specs.Faults.{next_count}
 use Rattle.mm_platform.specs.Standing.{Plan, Standing}
 use Rattle.mm_platform.specs.Memory.{new_platform}
 use Rattle.mm_platform.specs.Raw.{bytes_with_part}

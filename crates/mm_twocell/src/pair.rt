@@ -5,7 +5,7 @@ ghost use Rattle.std.specs.Result.{result_err};
 ghost use Rattle.mm_platform.specs.Raw.{ReadsRaw};
 ghost use Rattle.mm_twocell.specs.Pairs.{standing_as_one, picked_cell, WritesOtherCell};
 
-use mm_base::{CELL_LENGTH, Memory};
+use mm_bytes::{CELL_LENGTH, Memory};
 use mm_digest::Digest;
 use mm_platform::{Device, Nv, Platform, RawNv, Register, StepFault};
 

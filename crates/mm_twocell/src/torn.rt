@@ -8,7 +8,7 @@ ghost use Rattle.mm_platform.specs.Raw.{range_of, bytes_with_part, ReadsRaw, Wri
 ghost use Rattle.mm_twocell.specs.TornMemory.{TornMemory, IsUsable, IsSteady, first_memory, told_standing, will_fail, memory_after_call, memory_after_cycle, memory_with_part, memory_after_write, StepsRegister};
 ghost use Rattle.mm_twocell.specs.Wholes.{told_size};
 
-use mm_base::{CELL_LENGTH, Memory};
+use mm_bytes::{CELL_LENGTH, Memory};
 use mm_digest::Digest;
 use mm_platform::{Device, MemPlatform, Platform, RawNv, Register, StepFault};
 use std::alloc::Global;

@@ -1,5 +1,5 @@
 use Rattle.std.proofs.Common.{◌≡◌, ◌≤◌, arith}
-use Rattle.mm_base.specs.Faults.{next_count}
+use Rattle.mm_bytes.specs.Faults.{next_count}
 use Rattle.mm_platform.proofs.LettingIn.{ahead-falls}
 use Rattle.mm_platform.proofs.memory.MemPlatform.let_in.Goals as goal
 

@@ -1,5 +1,0 @@
-use Rattle.mm_base.proofs.Below.{length}
-use Rattle.mm_base.proofs.decimal.+number_behind.Given as goal
-
-abbrev pub decreases-number_behind : goal.decreases-number_behind
-decreases-number_behind l = length l.digits.now

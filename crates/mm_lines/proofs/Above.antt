@@ -1,2 +1,0 @@
--- What crates above may cite of these proofs: the other files can be read and changed by this crate alone.
-pub use Rattle.mm_lines.proofs.StreamLemmas.{Consumes-both}

@@ -1,5 +1,0 @@
-pub mod Above
-mod Below
-mod LineLemmas
-mod ReadingLemmas
-mod StreamLemmas
