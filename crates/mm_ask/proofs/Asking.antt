@@ -34,9 +34,6 @@ pub begun_stage : (variant : Variant) → IsStageOf variant Begun
 begun_stage Basic = tt
 begun_stage Opt = tt
 
-pub begun_step : (variant : Variant) → number_of {A = BatchAnswer} (write_step_of variant) Begun ≡ 1
-begun_step variant = refl
-
 going_extends : (on : OpStage BatchAnswer) → in_basic.StepExtendsNothing (Going on) → IsStageOf Basic on
 going_extends on none = none
 

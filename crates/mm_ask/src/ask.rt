@@ -4,8 +4,8 @@ ghost use Rattle.std.specs.Prelude.{◌≡◌, false};
 ghost use Rattle.mm_module.specs.Batches.{batch_of};
 ghost use Rattle.mm_model.specs.Long.{is_long};
 
-use mm_base::CELL_LENGTH;
 use mm_basic::BasicAsk;
+use mm_bytes::CELL_LENGTH;
 use mm_call::{AskResult, KeptKey};
 use mm_digest::{Digest, Variant};
 use mm_machine::{OpFinding, Operation, Sight, run};

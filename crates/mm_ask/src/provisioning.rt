@@ -7,7 +7,7 @@ ghost use Rattle.mm_model.specs.Standing.{cell_of, issued_bytes};
 ghost use Rattle.mm_call.specs.Standing.{instance_by};
 
 use crate::secrets::Secrets;
-use mm_base::Memory;
+use mm_bytes::Memory;
 use mm_call::Provisioned;
 use mm_digest::Variant;
 use mm_module::Module;

@@ -6,7 +6,7 @@ use Rattle.mm_basic.proofs.Below.{breaks_off, EndsByFinding, IsCallToEnd, IsWhol
 use Rattle.mm_basic.proofs.Below.{ends_result, given_all, basic_call, Basic}
 use Rattle.mm_call.specs.Counts.{StepsAnswered, StepsAre, StepsBy, StepsRefused, CellIsWrittenAtMostOnce}
 use Rattle.mm_call.specs.CallKind.{AreStepsToEnd}
-use Rattle.mm_base.specs.Faults.{next_count}
+use Rattle.mm_bytes.specs.Faults.{next_count}
 use Rattle.mm_model.specs.declared.refusal.Refusal.TheVariants.{Device, Long}
 use Rattle.mm_call.proofs.Above.{answered_result}
 use Rattle.mm_basic.proofs.Findings.{IsShaped, finding_shaped}

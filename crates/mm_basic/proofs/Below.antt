@@ -4,7 +4,7 @@ pub use Rattle.std.specs.Str.{bytes_eq}
 pub use Rattle.std.proofs.Common.{◌+◌, ◌∙◌, ◌∷◌, ◌≡◌, ◌≤◌, [], ap, arith, Bool, Err, false, IfOk, if◌then◌else◌, inl, inr, IsOk, IsTrue}
 pub use Rattle.std.proofs.Common.{length, List, map, None, Ok, Option, refl, Result, rules, Some, subst, sym, true, ℕ}
 pub use Rattle.std.proofs.lemmas.Slice.Eq.{bytes_eq-Decides}
-pub use Rattle.mm_base.specs.Limits.{last_position}
+pub use Rattle.mm_bytes.specs.Limits.{last_position}
 pub use Rattle.mm_digest.specs.Messages.{extended_digest_of, start_digest_of, zero_bytes}
 pub use Rattle.mm_digest.specs.declared.digest.Digest.{Digest}
 pub use Rattle.mm_digest.specs.declared.variant.Variant.TheVariants.{Basic}

@@ -68,7 +68,8 @@ impl Call {
 
     /// Makes the next device step. The first reads the cell, and runs the batch in memory; the last
     /// writes the cell, which commits the batch, by a function that has no allocator. The offer,
-    /// the batch and the module are read by the first alone.
+    /// the batch and the module are read by the first alone. Nothing is asked of what came to the
+    /// platform since the step before: whatever stands there, exactly this step is made (`turns`).
     pub fn advance<M: Module, P: Platform>(
         self,
         alloc: Global,

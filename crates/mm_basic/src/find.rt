@@ -2,7 +2,7 @@
 
 ghost use Rattle.std.specs.Prelude.{◌≡◌, ◌≤◌, ◌↔◌, false, None, IsTrue};
 ghost use Rattle.std.specs.Str.{bytes_eq};
-ghost use Rattle.mm_base.specs.Limits.{last_position};
+ghost use Rattle.mm_bytes.specs.Limits.{last_position};
 ghost use Rattle.mm_digest.specs.declared.variant.Variant.TheVariants.{Basic};
 ghost use Rattle.mm_module.specs.Batches.{batch_of};
 ghost use Rattle.mm_seal.specs.Cell.{SpellsCell};
@@ -15,7 +15,7 @@ ghost use Rattle.mm_basic.specs.Steps.{FindsIn};
 ghost use Rattle.mm_call.specs.Refusals.{IsOrMemory, fault_in};
 
 use crate::operation::BasicAsk;
-use mm_base::CELL_LENGTH;
+use mm_bytes::CELL_LENGTH;
 use mm_call::{KeptKey, admit_batch, answer, vet};
 use mm_digest::{Digest, Variant};
 use mm_machine::{Change, OpFinding, ReadyChange};

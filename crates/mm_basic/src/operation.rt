@@ -5,7 +5,7 @@ ghost use Rattle.mm_module.specs.Batches.{batch_of};
 ghost use Rattle.mm_model.specs.Long.{is_long};
 
 use crate::find::find;
-use mm_base::CELL_LENGTH;
+use mm_bytes::CELL_LENGTH;
 use mm_call::KeptKey;
 use mm_digest::Digest;
 use mm_machine::{OpFinding, Operation, Sight};

@@ -1,7 +1,8 @@
 //! Whole calls.
 
-ghost use Rattle.std.specs.Prelude.{◌≡◌, true, false, Err};
+ghost use Rattle.std.specs.Prelude.{◌≡◌, true, false, Err, IfOk};
 ghost use Rattle.std.specs.Result.{result_err};
+ghost use Rattle.mm_machine.specs.Prepared.{StandsAsPrepared, found_in};
 ghost use Rattle.mm_module.specs.Batch.{One};
 ghost use Rattle.mm_module.specs.Batches.{batch_of};
 ghost use Rattle.mm_model.specs.Long.{is_long};
@@ -15,33 +16,36 @@ ghost use Rattle.mm_basic.specs.Operation.{basic_operation};
 
 use crate::operation::BasicAsk;
 use mm_call::{Committed, KeptKey, commit, finish_call, read_call_alone};
-use mm_machine::OpFinding;
+use mm_machine::OpPrepared;
 use mm_model::{Answer, BatchAnswer, Refusal};
 use mm_module::{Batch, Module};
 use mm_platform::{Platform, StepFault};
 use std::alloc::Global;
 use std::marker::Model;
 
-/// A call whose reading step was made: its batch has run in memory. Contracts see what was found.
+/// A call whose reading step was made: its batch has run in memory. Contracts see what was found,
+/// and the cell that was read.
 #[derive(Drop)]
 pub struct Prepared {
-    found: OpFinding<BatchAnswer>,
+    prepared: OpPrepared<BatchAnswer>,
 }
 
 impl Model for Prepared {
     ghost use Rattle.std.specs.Prelude.{◌≡◌, false};
     ghost use Rattle.mm_machine.specs.OpReads.{has_extension};
-    ghost use Rattle.mm_machine.specs.declared.operation.OpFinding.{OpFinding};
+    ghost use Rattle.mm_machine.specs.declared.reading.OpPrepared.{OpPrepared};
     ghost use Rattle.mm_model.specs.declared.answer.BatchAnswer.{BatchAnswer};
 
-    ghost Value = { OpFinding BatchAnswer };
+    ghost Value = { OpPrepared BatchAnswer };
 
-    ghost view = { λ prepared. prepared.found };
+    ghost view = { λ it. it.prepared };
 
-    ghost invariant = { λ prepared. has_extension prepared.found ≡ false };
+    ghost invariant = { λ it. has_extension it.prepared.found ≡ false };
 }
 
-/// Makes the reading step of a call that asks for one request, and runs the request in memory.
+/// Makes the reading step of a call that asks for one request, and runs the request in memory. The
+/// platform stands as it was read, and `commit` asks that it still does (`StandsAsPrepared`): of
+/// two calls that were prepared on one cell, none is to be committed once the other has changed it.
 pub fn prepare<M: Module, P: Platform>(
     alloc: Global,
     module: &M,
@@ -53,11 +57,13 @@ pub fn prepare<M: Module, P: Platform>(
         (result ≡ Err Refusal.Long) × (P.standing platform.new ≡ P.standing platform.old) }
     ensures reads { is_long (One request.now) ≡ false →
         CallReads (basic_operation (M.meaning «module».now) offer.now (One request.now))
-        (P.standing platform.old) (P.standing platform.new) result }
+        (P.standing platform.old) (P.standing platform.new) (found_in result) }
     ensures goes { is_long (One request.now) ≡ false →
         IsCallSoFar basic_call (M.meaning «module».now) (P.standing platform.old)
         (P.standing platform.new)
-        offer.now (One request.now) result }
+        offer.now (One request.now) (found_in result) }
+    ensures stands { IfOk result (λ prepared. StandsAsPrepared prepared
+        (P.standing platform.new)) }
     ensures faults { CountsHandedFault (fault_in result)
         (P.standing platform.old).faults (P.standing platform.new).faults }
 {
@@ -73,19 +79,22 @@ pub fn prepare<M: Module, P: Platform>(
     };
     match read_call_alone(&ask, platform) {
         Err(refusal) => Err(refusal),
-        Ok(found) => Ok(Prepared { found }),
+        Ok(prepared) => Ok(Prepared { prepared }),
     }
 }
 
 impl Prepared {
-    /// Makes the writing step, which commits the request; a repeat has none. Takes no memory.
+    /// Makes the writing step, which commits the request; a repeat has none. The platform has to
+    /// stand as `prepare` left it, items of others aside: its cell is still the one that was read.
+    /// Takes no memory.
     pub fn commit<P: Platform>(self, platform: &mut P) -> Result<Committed, StepFault>
-        ensures commits { CommitsFinding (acts_for self) (answer_in self)
+        requires { StandsAsPrepared self (P.standing platform.old) }
+        ensures commits { CommitsFinding (acts_for self.found) (answer_in self.found)
             (P.standing platform.old) (P.standing platform.new) result }
         ensures faults { CountsHandedFault (result_err result)
             (P.standing platform.old).faults (P.standing platform.new).faults }
     {
-        commit(self.found, platform)
+        commit(self.prepared, platform)
     }
 }
 

@@ -7,7 +7,7 @@ pub use Rattle.mm_call.proofs.Coming.{answered_at, asked_for, asked_idle, basic_
 pub use Rattle.mm_call.proofs.Coming.{unless_idle}
 pub use Rattle.mm_call.proofs.Committing.{BlamesFor, ends_blamed, ends_fates, fate_of, Given, MakesAll, reading_tale, refused_result}
 pub use Rattle.mm_call.proofs.Committing.{steps_blamed, steps_give, Tale, tale_on}
-pub use Rattle.mm_call.proofs.Completing.{Accepts, answered_result, AsFound, calls_from, calls_to, commits_blamed, course_by, each_call}
+pub use Rattle.mm_call.proofs.Completing.{Accepts, answered_result, AsFound, calls_from, calls_to, course_by, each_call}
 pub use Rattle.mm_call.proofs.Completing.{ends_result, ends_untouched, given_all, GoesTo, is_memory, lacks_in, refused_reading, so_far}
 pub use Rattle.mm_call.proofs.Completing.{Told, told_on, told_reading}
 pub use Rattle.mm_call.proofs.Finding.{admitted_tells, each_at, found_with_tells, live_found, lives, not_lost, placed, right_at}

@@ -7,8 +7,8 @@ pub use Rattle.std.proofs.Common.{[], ap, append_assoc, arith, Bool, drop, Err, 
 pub use Rattle.std.proofs.Common.{List, map, None, Ok, Option, refl, Result, Some, subst, suc, sym, true, ℕ, ◌&&◌, ◌++◌, ◌+◌, ◌-◌, ◌∙◌}
 pub use Rattle.std.proofs.Common.{◌∷◌, ◌≡◌, ◌≤◌, ◌⊎◌}
 pub use Rattle.std.proofs.lemmas.List.{append-nil, map-append}
-pub use Rattle.mm_base.specs.Faults.{next_count}
-pub use Rattle.mm_base.specs.Limits.{last_position, limit_of}
+pub use Rattle.mm_bytes.specs.Faults.{next_count}
+pub use Rattle.mm_bytes.specs.Limits.{last_position, limit_of}
 pub use Rattle.mm_digest.specs.Messages.{extended_message, extended_digest_of, start_digest_of, zero_bytes}
 pub use Rattle.mm_digest.specs.declared.variant.Variant.{Variant}
 pub use Rattle.mm_digest.specs.declared.variant.Variant.TheVariants.{Basic, Opt}
@@ -74,7 +74,7 @@ pub use Rattle.mm_call.specs.CallFinding.{CallFinding, finding_at, finding_by_ve
 pub use Rattle.mm_call.specs.CallFindingWords.{finding_unless_wanting, finding_with, is_fresh}
 pub use Rattle.mm_call.specs.Laws.{BasicCallsAgree, CallsAgree, IsSame, IsSameCall, OptCallsAgree}
 pub use Rattle.mm_call.specs.Untouched.{CountsHandedFault, IsUntouched, CallLeavesUntouched}
-pub use Rattle.mm_call.specs.UntouchedLaws.{blamed, blamed_later, fault_handed}
+pub use Rattle.mm_call.specs.UntouchedLaws.{blamed, blamed_later}
 pub use Rattle.mm_call.specs.Levels.{DigestsAgree, state_after_moves, digest_level, list_level, Level, place_after_batch}
 pub use Rattle.mm_call.specs.MoveLaws.{agrees-made, batches-made, committed_batches, IsBasicMove, more_batches, plain-made, same_batches}
 pub use Rattle.mm_call.specs.Premises.{AreAsked, AreShown, IsIdle}

@@ -6,7 +6,7 @@ use Rattle.mm_call.proofs.Below.{Refusal, Long, Memory, AskResult, Answered, Ref
 use Rattle.mm_call.proofs.Below.{result_of_ending, position_of, position_if_committed, CallKind, AreStepsToEnd, EndsByFinding, IsCallToEnd}
 use Rattle.mm_call.proofs.Below.{IsWholeCall, IsCallSoFar, CallGoesBy, IsCallOnCourse, Course, StepFate, StepsWalk, walk, has_commit}
 use Rattle.mm_call.proofs.Below.{result_of, end_by_fault, end_of_refusal, kept_position, KeepsPosition, EndsAsCall, CallFinding, is_fresh}
-use Rattle.mm_call.proofs.Below.{CallsAgree, IsUntouched, CallLeavesUntouched, CountsHandedFault, fault_handed, state_after_moves}
+use Rattle.mm_call.proofs.Below.{CallsAgree, IsUntouched, CallLeavesUntouched, CountsHandedFault, state_after_moves}
 use Rattle.mm_call.proofs.Below.{digest_level, fault_of, fault_in, instance_by, StandsAt, fates_before_plan, told_by, begins_at, MakesStep}
 use Rattle.std.specs.Result.{result_err}
 use Rattle.mm_platform.specs.PlannedSteps.{next_plan}
@@ -282,10 +282,3 @@ module _ {F : Type 0} (c : CallKind F) where
       ends_result (λ (s : Standing) (r : Result BatchAnswer Refusal). CallLeavesUntouched r old s) why middle new ended e (h why refl)
   ends_untouched (Ok found) old middle new ended e h =
       given_untouched ended (c.answer found) old new (steps_give (c.acts found) (c.answer found) middle new ended e)
-
--- who is to blame, where only the steps that commit were made
-pub commits_blamed : (acts : List Act) (answer : BatchAnswer) (old new : Standing) (written : Result BatchAnswer StepFault)
-    → CommitsFinding acts answer old new written → CountsHandedFault (result_err written) old.faults new.faults
-commits_blamed acts answer old new written k =
-    subst (λ (f : Option StepFault). CountsHandedFault f old.faults new.faults) (ap fault_in k.gives ∙ fault_handed written)
-    (steps_blamed acts answer old new k.ended k.ends)

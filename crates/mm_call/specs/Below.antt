@@ -1,6 +1,6 @@
 -- The words that the definitions of this crate take from the crates below.
-pub use Rattle.mm_base.specs.Faults.{CountRose, next_count}
-pub use Rattle.mm_base.specs.Limits.{last_position}
+pub use Rattle.mm_bytes.specs.Faults.{CountRose, next_count}
+pub use Rattle.mm_bytes.specs.Limits.{last_position}
 pub use Rattle.mm_digest.specs.LengthLaws.{length-zero_bytes}
 pub use Rattle.mm_digest.specs.Messages.{extended_message, extended_digest_of, start_digest_of, zero_bytes}
 pub use Rattle.mm_digest.specs.declared.variant.Variant.{Variant}

@@ -1,6 +1,6 @@
 -- When a call is answered.
 use Rattle.std.specs.Prelude.{◌≡◌, ℕ, ◌+◌, ◌≤◌, true, false, List, [], ◌++◌, Some, Result}
-use Rattle.mm_base.specs.Limits.{last_position}
+use Rattle.mm_bytes.specs.Limits.{last_position}
 use Rattle.mm_model.specs.Messages.{IsClearFor}
 use Rattle.mm_model.specs.Places.{NamesPosition}
 use Rattle.mm_call.specs.Below.{Variant, Basic, Opt, Content, Item, Standing, Batch, size_of, normal_batch, Meaning, History}

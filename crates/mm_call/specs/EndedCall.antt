@@ -25,11 +25,6 @@ end_by_fault (Some fault) why = Broken fault None
 abbrev pub end_of_refusal : Refusal → AskResult
 end_of_refusal why = end_by_fault (fault_of why) why
 
--- how a call ended at the step that commits its batch, up to this position
-abbrev pub end_of_commit : Option ℕ → Result BatchAnswer StepFault → AskResult
-end_of_commit commits (Ok answer) = Answered answer
-end_of_commit commits (Err fault) = Broken fault commits
-
 -- The position that a step which ends so has committed: the one that it would, where its effect was
 -- made.
 abbrev pub kept_position : End → Option ℕ → Option ℕ

@@ -1,6 +1,5 @@
 -- What the machine's reading steps and ends are to a call: its refusals, and how it ended.
 use Rattle.std.specs.Prelude.{◌≡◌, ℕ, List, Result, Ok, Err}
-use Rattle.mm_machine.specs.Acts.{MayChange}
 use Rattle.mm_machine.specs.OpMeaning.{OpMeaning}
 pub use Rattle.mm_machine.specs.OpEnds.{acts_for, answer_in}
 use Rattle.mm_machine.specs.OpEnds as machine
@@ -9,7 +8,6 @@ use Rattle.mm_machine.specs.declared.call.OpResult as machine_end
 use Rattle.mm_machine.specs.declared.call.OpResult.TheVariants as end
 use Rattle.mm_machine.specs.declared.call.OpStage.{OpStage}
 use Rattle.mm_machine.specs.declared.operation.OpFinding.{OpFinding}
-use Rattle.mm_machine.specs.declared.operation.OpFinding.TheVariants.{Repeat, Change}
 use Rattle.mm_machine.specs.declared.reading.Halt.{Halt}
 use Rattle.mm_machine.specs.declared.reading.Halt.TheVariants as halt
 use Rattle.mm_call.specs.Below.{Variant, Standing, Batch, Meaning, BatchAnswer, Refusal, Device, Memory}
@@ -55,16 +53,6 @@ pub record CallFinishes (o : OpMeaning BatchAnswer Refusal) (stage : OpStage Bat
   pub end : machine_end.OpResult BatchAnswer Refusal
   pub finishes : machine.OpEnds o stage old new end
   pub gives : ended ≡ end_of_machine end
-
--- the room that the changing steps take that do what was found
-abbrev pub MayCommit : OpFinding BatchAnswer → Standing → Type 0
-MayCommit (Repeat answer) standing = Unit {0}
-MayCommit (Change ready) standing = MayChange ready.change standing
-
--- the same, where something was found
-abbrev pub LeavesRoom : Result (OpFinding BatchAnswer) Refusal → Standing → Type 0
-LeavesRoom (Ok found) standing = MayCommit found standing
-LeavesRoom (Err why) standing = Unit {0}
 
 -- what a variant gives of its calls: what each asks of the machine
 abbrev pub call_kind : Variant → (Meaning → List ℕ → Batch → OpMeaning BatchAnswer Refusal)

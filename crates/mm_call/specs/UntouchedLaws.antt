@@ -36,11 +36,6 @@ pub blamed_later : (fault : Option StepFault) (first before now : ℕ) → befor
     → CountsHandedFault fault first now
 blamed_later fault first before now e b = subst (λ (n : ℕ). CountsHandedFault fault n now) e b
 
--- a handed fault is the device's
-pub fault_handed : (written : Result BatchAnswer StepFault) → fault_in (result_with_fault written) ≡ result_err written
-fault_handed (Ok answer) = refl
-fault_handed (Err fault) = refl
-
 -- the answer to a batch of one is that to its request
 pub wholly : (all : BatchAnswer) (answer : Answer) → answer.again ≡ all.again → answer.position ≡ all.position
     → all.outputs ≡ answer.output ∷ [] → answer.snapshot ≡ all.snapshot → all ≡ batch_answer_of answer

@@ -1,14 +1,14 @@
 //! Whether an offer is accepted.
 
 ghost use Rattle.std.specs.Prelude.{◌≡◌, ◌+◌, ◌≤◌, false, IsTrue, OnOk, nat_le};
-ghost use Rattle.mm_base.specs.Limits.{last_position};
+ghost use Rattle.mm_bytes.specs.Limits.{last_position};
 ghost use Rattle.mm_module.specs.Batch.{size_of};
 ghost use Rattle.mm_module.specs.Batches.{batch_of};
 ghost use Rattle.mm_model.specs.Long.{is_long};
 ghost use Rattle.mm_call.specs.Order.{check_of_verdict};
 ghost use Rattle.mm_call.specs.OfferOrder.{SettlesOffer};
 
-use mm_base::LAST_POSITION;
+use mm_bytes::LAST_POSITION;
 use mm_model::{Refusal, Verdict};
 use mm_module::{Batch, Module};
 use mm_seal::{Offered, SealingKey};

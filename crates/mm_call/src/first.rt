@@ -4,7 +4,7 @@ ghost use Rattle.std.specs.Prelude.{◌≡◌, IfOk};
 ghost use Rattle.mm_seal.specs.Cell.{FitsVariant, cell_spelling};
 ghost use Rattle.mm_seal.specs.Snapshot.{sealed_snapshot_of};
 
-use mm_base::{Bytes, CELL_LENGTH, Memory};
+use mm_bytes::{Bytes, CELL_LENGTH, Memory};
 use mm_module::Module;
 use mm_seal::{Body, Cell, Place, cell_bytes, seal};
 use std::alloc::Global;

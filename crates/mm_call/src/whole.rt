@@ -1,18 +1,20 @@
 //! A whole call of either core, and its two parts: the steps that read, and those that commit what
 //! they found.
 
-ghost use Rattle.std.specs.Prelude.{◌≡◌};
+ghost use Rattle.std.specs.Prelude.{◌≡◌, ◌≤◌, true, IfOk};
 ghost use Rattle.std.specs.Result.{result_err};
 ghost use Rattle.mm_machine.specs.OpEnds.{acts_for, answer_in};
+ghost use Rattle.mm_machine.specs.OpReads.{has_extension};
+ghost use Rattle.mm_machine.specs.Prepared.{StandsAsPrepared, found_in};
 ghost use Rattle.mm_machine.specs.declared.call.OpStage.TheVariants.{Begun};
 ghost use Rattle.mm_call.specs.CallKind.{CommitsFinding};
 ghost use Rattle.mm_call.specs.EndedCall.{result_of};
 ghost use Rattle.mm_call.specs.Untouched.{CountsHandedFault};
-ghost use Rattle.mm_call.specs.Machine.{CallFinishes, CallReads, IsMade, LeavesRoom, MayCommit, end_of_machine};
+ghost use Rattle.mm_call.specs.Machine.{CallFinishes, CallReads, IsMade, end_of_machine};
 ghost use Rattle.mm_call.specs.Refusals.{result_with_fault};
 
 use crate::ended::{AskResult, refusal_of};
-use mm_machine::{OpFinding, Operation, finish_change, read, run};
+use mm_machine::{OpFinding, OpPrepared, Operation, finish_change, read, run};
 use mm_model::{BatchAnswer, Refusal};
 use mm_platform::{Platform, StepFault};
 use mm_seal::KeptKey;
@@ -41,19 +43,20 @@ impl Committed {
     }
 }
 
-/// Makes the reading steps, and room for what they found.
+/// Makes the reading steps, and room for what they found. What was read is kept, and the platform
+/// stands so.
 #[inline(always)]
 pub fn read_call<O: Operation<Answer = BatchAnswer, Refusal = Refusal>, P: Platform>(
     op: &O,
     platform: &mut P,
     keys: &mut KeptKey,
-) -> Result<OpFinding<BatchAnswer>, Refusal>
+) -> Result<OpPrepared<BatchAnswer>, Refusal>
     ensures reads { CallReads (O.asked op.now) (P.standing platform.old) (P.standing platform.new)
-        result }
-    ensures room { LeavesRoom result (P.standing platform.new) }
+        (found_in result) }
+    ensures stands { IfOk result (λ it. StandsAsPrepared it (P.standing platform.new)) }
 {
     match read(op, platform, keys) {
-        Ok(found) => Ok(found),
+        Ok(prepared) => Ok(prepared),
         Err(halt) => Err(refusal_of(halt)),
     }
 }
@@ -63,21 +66,21 @@ pub fn read_call<O: Operation<Answer = BatchAnswer, Refusal = Refusal>, P: Platf
 pub fn read_call_alone<O: Operation<Answer = BatchAnswer, Refusal = Refusal>, P: Platform>(
     op: &O,
     platform: &mut P,
-) -> Result<OpFinding<BatchAnswer>, Refusal>
+) -> Result<OpPrepared<BatchAnswer>, Refusal>
     ensures reads { CallReads (O.asked op.now) (P.standing platform.old) (P.standing platform.new)
-        result }
-    ensures room { LeavesRoom result (P.standing platform.new) }
+        (found_in result) }
+    ensures stands { IfOk result (λ it. StandsAsPrepared it (P.standing platform.new)) }
 {
     read_call(op, platform, &mut KeptKey::new())
 }
 
-/// Makes the changing steps, which commit what was found; a repeat has none. Takes no memory, but
-/// the room that the reading steps left.
-pub fn commit<P: Platform>(
+// The changing steps that commit this, with room for the extension among them.
+#[inline(always)]
+fn commit_found<P: Platform>(
     found: OpFinding<BatchAnswer>,
     platform: &mut P,
 ) -> Result<Committed, StepFault>
-    requires { MayCommit found (P.standing platform.old) }
+    requires { has_extension found ≡ true → 1 ≤ (P.standing platform.old).spare }
     ensures commits { CommitsFinding (acts_for found) (answer_in found) (P.standing platform.old)
         (P.standing platform.new) result }
     ensures faults { CountsHandedFault (result_err result)
@@ -89,6 +92,22 @@ pub fn commit<P: Platform>(
             handed_out(finish_change(ready.answer.position, ready, platform))
         }
     }
+}
+
+/// Makes the changing steps, which commit what was found; a repeat has none. The platform has to
+/// stand as the reading steps left it, items of others aside. Takes no memory, but the room that
+/// the reading steps left.
+pub fn commit<P: Platform>(
+    prepared: OpPrepared<BatchAnswer>,
+    platform: &mut P,
+) -> Result<Committed, StepFault>
+    requires { StandsAsPrepared prepared (P.standing platform.old) }
+    ensures commits { CommitsFinding (acts_for prepared.found) (answer_in prepared.found)
+        (P.standing platform.old) (P.standing platform.new) result }
+    ensures faults { CountsHandedFault (result_err result)
+        (P.standing platform.old).faults (P.standing platform.new).faults }
+{
+    commit_found(prepared.found, platform)
 }
 
 // What the changing steps of a call gave.

@@ -10,7 +10,7 @@ use Rattle.mm_callers.proofs.Below.{walk, CallFinding, finding_at, foreign_made,
 use Rattle.mm_callers.proofs.Below.{AskPromise, CallKind, Given, CountsHandedFault, list_level, state_after_moves, one_content, right_of}
 use Rattle.mm_callers.proofs.Below.{listed_by, issued_once, AreAsked, fault_of, fault_in, answered_at, IsOnce, AnswersOnce, AreLeftBatches}
 use Rattle.mm_callers.proofs.Below.{call_terms, SaysFound, SaysUnlessFault, finding_for, in_second}
-use Rattle.mm_base.specs.Faults.{next_count, CountRose}
+use Rattle.mm_bytes.specs.Faults.{next_count, CountRose}
 use Rattle.mm_module.specs.BatchLaws.{size_of-pos}
 use Rattle.mm_call.specs.Answers.{answer_on}
 use Rattle.mm_call.proofs.Above.{path_is, sight_is}

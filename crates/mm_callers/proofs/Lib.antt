@@ -8,3 +8,4 @@ mod OptCalls
 mod OptChecking
 mod OptComplete
 mod OptRepeating
+mod Preparing

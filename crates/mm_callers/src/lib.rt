@@ -8,5 +8,6 @@ pub mod basic;
 pub mod closing;
 mod laws;
 pub mod opt;
+pub mod parts;
 
 pub use laws::calls_are_complete;

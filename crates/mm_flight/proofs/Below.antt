@@ -2,7 +2,7 @@
 pub use Rattle.std.specs.Option.{option_map}
 pub use Rattle.std.proofs.Common.{◌++◌, ◌+◌, ◌<◌, ◌∙◌, ◌∷◌, ◌≡◌, ◌≤◌, [], ap, arith, Bool, Err, false, List, None, Ok, Option, refl, Result}
 pub use Rattle.std.proofs.Common.{Some, subst, sym, true, ℕ}
-pub use Rattle.mm_base.specs.Faults.{next_count}
+pub use Rattle.mm_bytes.specs.Faults.{next_count}
 pub use Rattle.mm_seal.specs.declared.cell.Cell.{Cell}
 pub use Rattle.mm_platform.specs.Memory.{plan_with_meddle}
 pub use Rattle.mm_platform.specs.Standing.{Plan, Standing}

@@ -1,3 +1,4 @@
 pub mod Above
 mod Ending
 mod Joining
+mod Preparing

@@ -3,3 +3,4 @@ pub mod OpMeaning
 pub mod OpReads
 pub mod OpSteps
 pub mod OpEnds
+pub mod Prepared

@@ -14,4 +14,4 @@ pub use call::{OpCall, OpResult, OpStage, StepResult, advance};
 pub use change::{Change, SegmentOpening};
 pub use finishing::{advance_and_finish, finish, finish_change, run};
 pub use operation::{OpFinding, Operation, ReadyChange, Sight};
-pub use reading::{Halt, read};
+pub use reading::{Halt, OpPrepared, read};

@@ -4,7 +4,7 @@ ghost use Rattle.std.specs.Prelude.{◌≡◌, ◌≤◌, ℕ};
 ghost use Rattle.mm_machine.specs.OpMeaning.{OpMeaning};
 
 use crate::change::Change;
-use mm_base::CELL_LENGTH;
+use mm_bytes::CELL_LENGTH;
 use mm_digest::Digest;
 use mm_seal::{Cell, KeptKey};
 

@@ -1,8 +1,8 @@
 -- The words that the definitions of this crate take from the crates below.
 pub use Rattle.sha2.proofs.Facts256.{length-sha256}
 pub use Rattle.sha2.specs.Sha256.{sha256}
-pub use Rattle.mm_base.specs.FieldLaws.{append-injective}
-pub use Rattle.mm_base.specs.Limits.{last_position, limit_of, longest_request, most_members}
+pub use Rattle.mm_bytes.specs.FieldLaws.{append-injective}
+pub use Rattle.mm_bytes.specs.Limits.{last_position, limit_of, longest_request, most_members}
 pub use Rattle.mm_digest.specs.LengthLaws.{length-hmac_of, length-start_digest_of, length-zero_bytes}
 pub use Rattle.mm_digest.specs.Messages.{anchored_message, anchored_digest_of, extended_message, extended_digest_of, start_message}
 pub use Rattle.mm_digest.specs.Messages.{start_digest_of, zero_bytes}

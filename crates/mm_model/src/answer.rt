@@ -2,7 +2,7 @@
 
 ghost use Rattle.std.specs.Prelude.{◌≡◌, [], ◌∷◌, length};
 
-use mm_base::Bytes;
+use mm_bytes::Bytes;
 use mm_module::Outputs;
 
 /// The answer to one request.

@@ -8,7 +8,7 @@ ghost use Rattle.mm_model.specs.Life.{is_same_batch, has_value};
 ghost use Rattle.mm_model.specs.Verdicts.{is_last};
 ghost use Rattle.mm_model.specs.KeptHistory.{kept_batch, kept_batches, kept_entry, kept_entries};
 
-use mm_base::{Bytes, Memory};
+use mm_bytes::{Bytes, Memory};
 use mm_digest::Digest;
 use mm_module::Batch;
 use std::alloc::Global;

@@ -6,7 +6,7 @@ ghost use Rattle.mm_module.specs.Batches.{batch_of};
 ghost use Rattle.mm_model.specs.Long.{is_long};
 ghost use Rattle.mm_model.specs.LongWords.{is_lf};
 
-use mm_base::{LONGEST_REQUEST, MOST_MEMBERS};
+use mm_bytes::{LONGEST_REQUEST, MOST_MEMBERS};
 use mm_module::Batch;
 
 /// Whether the batch is refused as Long: its text, the requests joined by TAB, has more than 4,096

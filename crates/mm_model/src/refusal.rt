@@ -2,7 +2,7 @@
 
 ghost use Rattle.std.specs.Prelude.{◌≡◌};
 
-use mm_base::Memory;
+use mm_bytes::Memory;
 use mm_platform::StepFault;
 use thiserror::Error;
 

@@ -8,7 +8,7 @@ ghost use Rattle.mm_module.specs.Batches.{batch_of};
 ghost use Rattle.mm_model.specs.Long.{is_long};
 ghost use Rattle.mm_model.specs.PartialRun.{IsPartialRun};
 
-use mm_base::{Bytes, Memory};
+use mm_bytes::{Bytes, Memory};
 use mm_module::{Batch, Module, Outputs, Stepped};
 use std::alloc::Global;
 

@@ -5,7 +5,7 @@ pub use Rattle.std.proofs.Common.{◌&&◌, ◌++◌, ◌+◌, ◌-◌, ◌<◌,
 pub use Rattle.std.proofs.Common.{get_or, inl, inr, IsErr, length, length-append, length-drop, length-take, List, None, not, Ok, Option}
 pub use Rattle.std.proofs.Common.{refl, Result, Some, subst, sym, take, true, ℕ}
 pub use Rattle.std.proofs.lemmas.List.{append-nil, take-append-drop}
-pub use Rattle.mm_base.specs.Limits.{cell_length, last_position, limit_of}
+pub use Rattle.mm_bytes.specs.Limits.{cell_length, last_position, limit_of}
 pub use Rattle.mm_digest.specs.Messages.{variant_byte, zero_bytes}
 pub use Rattle.mm_digest.specs.declared.digest.Digest.{Digest}
 pub use Rattle.mm_digest.specs.declared.variant.Variant.{Variant}

@@ -1,7 +1,7 @@
 -- How a move's steps join, and what the whole leaves and counts.
 use Rattle.mm_move.proofs.Below.{◌≡◌, ◌≢◌, ℕ, Bool, true, false, List, Option, None, Some, Result, Ok, Err, IsErr, inl, inr, refl, sym, ap}
 use Rattle.mm_move.proofs.Below.{◌∙◌, subst, ReadyMove, MoveRefusal, move_fault_of, move_fault_in, IsOrNoMemory}
-use Rattle.mm_base.specs.Faults.{next_count}
+use Rattle.mm_bytes.specs.Faults.{next_count}
 use Rattle.mm_platform.specs.declared.fault.StepFault.{StepFault}
 use Rattle.mm_platform.specs.Standing.{Standing}
 use Rattle.mm_platform.specs.Steps.{ReadCell, WriteCell, StepGoes}

@@ -8,8 +8,8 @@ use Rattle.mm_move.proofs.Below.{IsTagged, ticket_spelling, is_for, is_spelled_b
 use Rattle.std.specs.Int.{w64, from_be_bytes, to_be_bytes}
 use Rattle.std.proofs.lemmas.List.Folds.{drop_split}
 use Rattle.std.proofs.lemmas.Nat.{from_be_bytes-to_be_bytes_8}
-use Rattle.mm_base.specs.Fields.{eight_bytes, four_bytes}
-use Rattle.mm_base.specs.FieldLaws.{length-eight_bytes, length-four_bytes}
+use Rattle.mm_bytes.specs.Fields.{eight_bytes, four_bytes}
+use Rattle.mm_bytes.specs.FieldLaws.{length-eight_bytes, length-four_bytes}
 use Rattle.mm_digest.specs.declared.variant.Variant.TheVariants as variants
 use Rattle.mm_digest.specs.Messages.{zero_bytes}
 use Rattle.mm_seal.specs.declared.snapshot.Place.{Place}

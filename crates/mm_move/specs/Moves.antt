@@ -1,7 +1,7 @@
 -- What a move does to the platform, and what it answers.
 use Rattle.std.specs.Prelude.{◌≡◌, ℕ, List, length, Option, None, Some, Result, Ok, Err, IsErr, ◌⊎◌}
-use Rattle.mm_base.specs.Faults.{next_count}
-use Rattle.mm_base.specs.Limits.{cell_length}
+use Rattle.mm_bytes.specs.Faults.{next_count}
+use Rattle.mm_bytes.specs.Limits.{cell_length}
 use Rattle.mm_platform.specs.declared.fault.StepFault.{StepFault}
 use Rattle.mm_platform.specs.Standing.{Standing}
 use Rattle.mm_platform.specs.Steps.{ReadCell, WriteCell, StepGoes}

@@ -1,6 +1,6 @@
 -- What is read, as plain data, and within which bounds.
 use Rattle.std.specs.Prelude.{◌≡◌, ◌≤◌, length, Result, Ok, Err}
-use Rattle.mm_base.specs.Limits.{last_position, limit_of}
+use Rattle.mm_bytes.specs.Limits.{last_position, limit_of}
 use Rattle.mm_digest.specs.declared.variant.Variant.{Variant}
 use Rattle.mm_seal.specs.declared.snapshot.Body.{Body}
 use Rattle.mm_seal.specs.Body.{content_of}

@@ -1,7 +1,7 @@
 //! Acceptance: a module comes to the platform that waits for it.
 
 ghost use Rattle.std.specs.Prelude.{◌≡◌, ◌≤◌, IfOk, Ok, false, length};
-ghost use Rattle.mm_base.specs.Limits.{last_position, limit_of};
+ghost use Rattle.mm_bytes.specs.Limits.{last_position, limit_of};
 ghost use Rattle.mm_seal.specs.Body.{content_of};
 ghost use Rattle.mm_seal.specs.Cell.{FitsVariant};
 ghost use Rattle.mm_move.specs.Cells.{FitsMoved, moved_cell_of};
@@ -18,7 +18,7 @@ use crate::owner::{is_barred, is_other};
 use crate::ready::{ReadyMove, go_on, read};
 use crate::refusal::MoveRefusal;
 use crate::ticket::{Ticket, read_ticket, summary_of};
-use mm_base::{Bytes, Memory};
+use mm_bytes::{Bytes, Memory};
 use mm_digest::Variant;
 use mm_model::Refusal;
 use mm_module::Module;

@@ -6,7 +6,7 @@ ghost use Rattle.mm_seal.specs.Cell.{blank_cell};
 ghost use Rattle.mm_move.specs.Cells.{FitsMoved, head_of, is_fit_for_variant, fits_variant, waiting_spelling, retired_spelling, moved_spelling, waiting_cell_in, retired_cell_in, live_cell_in, moved_cell_in, is_spelled_by, moved_cell_of};
 
 use crate::fields::{part, variant_in};
-use mm_base::CELL_LENGTH;
+use mm_bytes::CELL_LENGTH;
 use mm_digest::{Digest, Variant, zero};
 use mm_seal::{Cell, CellFault, cell_bytes};
 

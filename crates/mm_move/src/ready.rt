@@ -3,7 +3,7 @@
 ghost use Rattle.mm_move.specs.Moves.{MoveGoesOn, MakesMoveStep, ReadsBytes};
 
 use crate::refusal::MoveRefusal;
-use mm_base::CELL_LENGTH;
+use mm_bytes::CELL_LENGTH;
 use mm_model::Refusal;
 use mm_platform::Platform;
 

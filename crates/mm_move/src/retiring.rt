@@ -2,7 +2,7 @@
 
 ghost use Rattle.std.specs.Prelude.{◌≡◌, ◌≤◌, IfOk, Ok, false, length};
 ghost use Rattle.std.specs.List.{list_any};
-ghost use Rattle.mm_base.specs.Limits.{last_position, limit_of};
+ghost use Rattle.mm_bytes.specs.Limits.{last_position, limit_of};
 ghost use Rattle.mm_digest.specs.Messages.{zero_bytes};
 ghost use Rattle.mm_model.specs.Verdicts.{forms_of, is_fresh_form};
 ghost use Rattle.mm_seal.specs.Body.{content_of};
@@ -20,7 +20,7 @@ use crate::owner::{is_barred, is_other};
 use crate::ready::{ReadyMove, go_on, read};
 use crate::refusal::MoveRefusal;
 use crate::ticket::{Ticket, place_at, ticket_bytes};
-use mm_base::{Bytes, CELL_LENGTH};
+use mm_bytes::{Bytes, CELL_LENGTH};
 use mm_digest::{Digest, Variant, anchored, zero};
 use mm_model::Refusal;
 use mm_module::Module;

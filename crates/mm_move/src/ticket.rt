@@ -1,14 +1,14 @@
 //! Tickets: what a retired platform gives to the one that was invited, sealed under the link's key.
 
 ghost use Rattle.std.specs.Prelude.{◌≡◌, ◌≤◌, ◌++◌, [], IfOk, OnOk, MatchOption, true, false, length};
-ghost use Rattle.mm_base.specs.Fields.{eight_bytes, four_bytes};
-ghost use Rattle.mm_base.specs.Limits.{last_position, limit_of};
+ghost use Rattle.mm_bytes.specs.Fields.{eight_bytes, four_bytes};
+ghost use Rattle.mm_bytes.specs.Limits.{last_position, limit_of};
 ghost use Rattle.mm_seal.specs.Body.{content_of};
 ghost use Rattle.mm_seal.specs.PartsWords.{is_bounded};
 ghost use Rattle.mm_move.specs.Tickets.{IsAtAnchor, summary_in, place_at, ticket_content, ticket_front, sealed_ticket, tagged_ticket_in, is_for, is_spelled_by, ticket_of};
 
 use crate::fields::{number_at, part, variant_in};
-use mm_base::{Bytes, LAST_POSITION, Memory, bytes_of_u32, bytes_of_u64};
+use mm_bytes::{Bytes, LAST_POSITION, Memory, bytes_of_u32, bytes_of_u64};
 use mm_digest::{Digest, HmacKey, Variant, zero};
 use mm_seal::{Body, PartsFault, Place};
 use std::alloc::Global;

@@ -2,7 +2,7 @@
 pub use Rattle.mm_opt.proofs.Asked.{asked, asked_by}
 pub use Rattle.mm_opt.proofs.Checking.{checks_on}
 pub use Rattle.mm_opt.proofs.Checkpointing.{closing_blamed, closing_steps, leaves_still}
-pub use Rattle.mm_opt.proofs.ClosingByMachine.{closes_whole, closing_steps_as, few_closing, may_close}
+pub use Rattle.mm_opt.proofs.ClosingByMachine.{closes_whole, closing_steps_as, few_closing}
 pub use Rattle.mm_opt.proofs.Completeness.{found_right}
 pub use Rattle.mm_opt.proofs.Going.{calls_to, finished_asks, finished_to}
 pub use Rattle.mm_opt.proofs.Numbering.{numbers}

@@ -5,8 +5,8 @@ pub use Rattle.std.specs.Str.{bytes_eq}
 pub use Rattle.std.proofs.Common.{◌++◌, ◌+◌, ◌^◌, ◌∙◌, ◌∷◌, ◌≡◌, ◌≤◌, [], ap, arith, Bool, Err, false, IfOk, inl, inr, IsTrue, le-leb}
 pub use Rattle.std.proofs.Common.{length, List, map, None, Ok, Option, refl, Result, Some, subst, sym, true, ℕ}
 pub use Rattle.std.proofs.lemmas.Bool.Decides.{nat_tests}
-pub use Rattle.mm_base.specs.Faults.{next_count}
-pub use Rattle.mm_base.specs.Limits.{last_position}
+pub use Rattle.mm_bytes.specs.Faults.{next_count}
+pub use Rattle.mm_bytes.specs.Limits.{last_position}
 pub use Rattle.mm_digest.specs.LengthLaws.{length-anchored_digest_of, length-extended_digest_of, length-zero_bytes}
 pub use Rattle.mm_digest.specs.Messages.{extended_digest_of, start_digest_of, zero_bytes}
 pub use Rattle.mm_digest.specs.declared.variant.Variant.{Variant}

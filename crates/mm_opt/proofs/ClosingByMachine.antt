@@ -258,15 +258,6 @@ turn_acts it old new step turn is s e = rw (e, step_fault_told step) (closing_st
 
 -- it takes no room, and its steps have the numbers 1, 2 and 3
 
-may_write : (change : Move) (standing : Standing) → is_extension_left change ≡ false → MayChange change standing
-may_write (Writing next) standing is = tt
-may_write _ standing is = absurd (cc)
-
-pub may_close : (it : OpStage Checkpointed) (standing : Standing) → IsClosing it → MayGoOn it standing
-may_close Begun standing is = tt
-may_close (Seen cell) standing is = tt
-may_close (Changing ready) standing is = may_write ready.change standing is
-
 few_changing : (change : Move) → is_extension_left change ≡ false → number_in 3 change ≤ 5
 few_changing (Writing next) is = omega arith
 few_changing _ is = absurd (cc)

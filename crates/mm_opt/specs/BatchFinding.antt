@@ -7,8 +7,5 @@ use Rattle.mm_opt.specs.Below.{BatchAnswer}
 abbrev pub BatchFinding : Type 0
 BatchFinding = found.OpFinding BatchAnswer
 
-abbrev pub ReadyBatch : Type 0
-ReadyBatch = ready.ReadyChange BatchAnswer
-
 abbrev pub BatchStage : Type 0
 BatchStage = call.OpStage BatchAnswer

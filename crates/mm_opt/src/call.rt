@@ -64,7 +64,9 @@ impl Call {
     /// Makes the next device step. The first reads the cell. The second reads the register, runs
     /// the batch in memory and makes room for an extension; the steps after it change something,
     /// and take no memory. The offer and the batch are read by the second alone, the module by the
-    /// first two. An own extension needs room for it, which the second step leaves.
+    /// first two. An own extension needs room for it, which the second step leaves. Nothing else is
+    /// asked of what came to the platform since the step before: whatever stands there, exactly
+    /// this step is made (`turns`, `acts`).
     pub fn advance<M: Module, P: Platform>(
         self,
         alloc: Global,

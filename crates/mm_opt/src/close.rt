@@ -6,7 +6,7 @@ ghost use Rattle.mm_opt.specs.ClosingOperation.{closing_operation};
 
 use crate::segment::{CheckpointRefusal, Checkpointed, Segment};
 use crate::verdicts::is_zero;
-use mm_base::CELL_LENGTH;
+use mm_bytes::CELL_LENGTH;
 use mm_digest::{Digest, Variant, anchored};
 use mm_machine::{Change, OpFinding, Operation, ReadyChange, Sight};
 use mm_seal::{Cell, CellFault, KeptKey, cell_bytes, read_cell};

@@ -1,7 +1,7 @@
 //! What a call finds in the cell, the register and the offer.
 
 ghost use Rattle.std.specs.Prelude.{◌≡◌, ◌+◌, ◌≤◌, IfOk, IsTrue, None, Ok};
-ghost use Rattle.mm_base.specs.Limits.{last_position};
+ghost use Rattle.mm_bytes.specs.Limits.{last_position};
 ghost use Rattle.mm_digest.specs.declared.variant.Variant.TheVariants.{Opt};
 ghost use Rattle.mm_module.specs.Batches.{batch_of};
 ghost use Rattle.mm_seal.specs.Snapshot.{variant_of};
@@ -14,7 +14,7 @@ ghost use Rattle.mm_call.specs.Refusals.{IsOrMemory, fault_in};
 
 use crate::operation::OptAsk;
 use crate::verdicts::{has_lost_power, verdict};
-use mm_base::CELL_LENGTH;
+use mm_bytes::CELL_LENGTH;
 use mm_call::{KeptKey, admit_batch, answer, vet};
 use mm_digest::{Digest, Variant, extended, zero};
 use mm_machine::{Change, OpFinding, ReadyChange, SegmentOpening};

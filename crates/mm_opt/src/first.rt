@@ -6,7 +6,7 @@ ghost use Rattle.mm_model.specs.History.{first_history};
 ghost use Rattle.mm_model.specs.InstanceWords.{opt_instance};
 ghost use Rattle.mm_model.specs.Standing.{cell_of, issued_bytes};
 
-use mm_base::Memory;
+use mm_bytes::Memory;
 use mm_call::{Provisioned, provision_with};
 use mm_digest::{Variant, start, zero};
 use mm_module::Module;

@@ -6,7 +6,7 @@ ghost use Rattle.mm_model.specs.Long.{is_long};
 ghost use Rattle.mm_opt.specs.Operation.{opt_operation};
 
 use crate::find::{find_cell, find_in};
-use mm_base::CELL_LENGTH;
+use mm_bytes::CELL_LENGTH;
 use mm_call::KeptKey;
 use mm_digest::Digest;
 use mm_machine::{OpFinding, Operation, Sight};

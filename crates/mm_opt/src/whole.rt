@@ -1,14 +1,15 @@
 //! Whole calls.
 
-ghost use Rattle.std.specs.Prelude.{◌≡◌, true, false, Err};
+ghost use Rattle.std.specs.Prelude.{◌≡◌, true, false, Err, IfOk};
 ghost use Rattle.std.specs.Result.{result_err};
 ghost use Rattle.mm_machine.specs.OpEnds.{acts_for, answer_in};
+ghost use Rattle.mm_machine.specs.Prepared.{StandsAsPrepared, found_in};
 ghost use Rattle.mm_module.specs.Batch.{One};
 ghost use Rattle.mm_module.specs.Batches.{batch_of};
 ghost use Rattle.mm_model.specs.Long.{is_long};
 ghost use Rattle.mm_call.specs.CallKind.{CommitsFinding, IsCallSoFar};
 ghost use Rattle.mm_call.specs.Untouched.{CountsHandedFault, batch_result_of};
-ghost use Rattle.mm_call.specs.Machine.{CallReads, LeavesRoom, MayCommit};
+ghost use Rattle.mm_call.specs.Machine.{CallReads};
 ghost use Rattle.mm_call.specs.Refusals.{fault_in};
 ghost use Rattle.mm_opt.specs.AskPromise.{OptAskPromise};
 ghost use Rattle.mm_opt.specs.OptCall.{opt_call};
@@ -16,7 +17,7 @@ ghost use Rattle.mm_opt.specs.Operation.{opt_operation};
 
 use crate::operation::OptAsk;
 use mm_call::{Committed, KeptKey, commit, finish_call, read_call_alone};
-use mm_machine::OpFinding;
+use mm_machine::OpPrepared;
 use mm_model::{Answer, BatchAnswer, Refusal};
 use mm_module::{Batch, Module};
 use mm_platform::{Platform, StepFault};
@@ -24,21 +25,25 @@ use std::alloc::Global;
 use std::marker::Model;
 
 /// A call whose reading steps were made: its batch has run in memory, and there is room for its
-/// extension. Contracts see what was found.
+/// extension. Contracts see what was found, and the cell and the register's value that were read.
 #[derive(Drop)]
 pub struct Prepared {
-    found: OpFinding<BatchAnswer>,
+    prepared: OpPrepared<BatchAnswer>,
 }
 
 impl Model for Prepared {
-    ghost use Rattle.mm_opt.specs.BatchFinding.{BatchFinding};
+    ghost use Rattle.mm_machine.specs.declared.reading.OpPrepared.{OpPrepared};
+    ghost use Rattle.mm_opt.specs.Below.{BatchAnswer};
 
-    ghost Value = { BatchFinding };
+    ghost Value = { OpPrepared BatchAnswer };
 
-    ghost view = { λ prepared. prepared.found };
+    ghost view = { λ it. it.prepared };
 }
 
-/// Makes the reading steps of a call that asks for one request, and runs the request in memory.
+/// Makes the reading steps of a call that asks for one request, and runs the request in memory. The
+/// platform stands as it was read, with room for the extension, and `commit` asks that it still
+/// does (`StandsAsPrepared`): of two calls that were prepared on one cell and register, none is to
+/// be committed once the other has changed them.
 pub fn prepare<M: Module, P: Platform>(
     alloc: Global,
     module: &M,
@@ -50,12 +55,13 @@ pub fn prepare<M: Module, P: Platform>(
         (result ≡ Err Refusal.Long) × (P.standing platform.new ≡ P.standing platform.old) }
     ensures reads { is_long (One request.now) ≡ false →
         CallReads (opt_operation (M.meaning «module».now) offer.now (One request.now))
-        (P.standing platform.old) (P.standing platform.new) result }
+        (P.standing platform.old) (P.standing platform.new) (found_in result) }
     ensures goes { is_long (One request.now) ≡ false →
         IsCallSoFar opt_call (M.meaning «module».now) (P.standing platform.old)
         (P.standing platform.new)
-        offer.now (One request.now) result }
-    ensures room { LeavesRoom result (P.standing platform.new) }
+        offer.now (One request.now) (found_in result) }
+    ensures stands { IfOk result (λ prepared. StandsAsPrepared prepared
+        (P.standing platform.new)) }
     ensures faults { CountsHandedFault (fault_in result)
         (P.standing platform.old).faults (P.standing platform.new).faults }
 {
@@ -71,21 +77,23 @@ pub fn prepare<M: Module, P: Platform>(
     };
     match read_call_alone(&ask, platform) {
         Err(refusal) => Err(refusal),
-        Ok(found) => Ok(Prepared { found }),
+        Ok(prepared) => Ok(Prepared { prepared }),
     }
 }
 
 impl Prepared {
-    /// Makes the changing steps, which commit the request; a repeat has none. Takes no memory, but
-    /// the room that `prepare` left.
+    /// Makes the changing steps, which commit the request; a repeat has none. The platform has to
+    /// stand as `prepare` left it: its cell is still the one that was read, the register shows what
+    /// was read and behind it items of others alone, and where it is to be extended there is room
+    /// for that. Takes no memory, but the room that `prepare` left.
     pub fn commit<P: Platform>(self, platform: &mut P) -> Result<Committed, StepFault>
-        requires { MayCommit self (P.standing platform.old) }
-        ensures commits { CommitsFinding (acts_for self) (answer_in self)
+        requires { StandsAsPrepared self (P.standing platform.old) }
+        ensures commits { CommitsFinding (acts_for self.found) (answer_in self.found)
             (P.standing platform.old) (P.standing platform.new) result }
         ensures faults { CountsHandedFault (result_err result)
             (P.standing platform.old).faults (P.standing platform.new).faults }
     {
-        commit(self.found, platform)
+        commit(self.prepared, platform)
     }
 }
 

@@ -3,7 +3,7 @@
 ghost use Rattle.std.specs.Prelude.{◌≡◌, [], ◌∷◌, ◌++◌, length, IfOk, IsTrue, OnOk, OnErr, MatchOption};
 ghost use Rattle.mm_module.specs.Meaning.{IsLine, last_output_after};
 
-use mm_base::{Bytes, Memory};
+use mm_bytes::{Bytes, Memory};
 use mm_module::{Module, Stepped};
 use std::alloc::Global;
 use std::marker::Model;

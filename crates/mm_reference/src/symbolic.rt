@@ -10,7 +10,7 @@ ghost use Rattle.mm_model.specs.Verdicts.{verdict_on};
 ghost use Rattle.mm_model.specs.CommitMoves.{with_batch};
 
 use crate::entries::{all_own, some_segment_has_value};
-use mm_base::Memory;
+use mm_bytes::Memory;
 use mm_digest::{Digest, Variant};
 use mm_model::{
     KeptBatch, KeptEntry, Verdict, copies_of, copy_entries, last_is, normal, reserve_one,

@@ -15,7 +15,8 @@ pub returns-in-Ok-clause-goes : goal.returns-in-Ok-clause-goes
 returns-in-Ok-clause-goes g c =
     λ (short : is_long (One c.args.request.now) ≡ false).
     prepared (g.M.Module.meaning c.args.module.now) (g.P.Device.standing c.args.platform.now)
-    (g.P.Device.standing c.read_call_alone.new.platform) c.args.offer.now (One c.args.request.now) (Ok c.in-Ok.found) c.in-Ok.ensures.reads
+    (g.P.Device.standing c.read_call_alone.new.platform) c.args.offer.now (One c.args.request.now)
+    (Ok c.in-Ok.prepared.found) c.in-Ok.ensures.reads
 
 pub returns-in-Err-clause-faults : goal.returns-in-Err-clause-faults
 returns-in-Err-clause-faults g c =
@@ -30,9 +31,11 @@ returns-in-Ok-clause-faults g c =
     let meaning = g.M.Module.meaning c.args.module.now in
     reads_blamed (basic_operation meaning c.args.offer.now (One c.args.request.now))
     (quiet meaning c.args.offer.now (One c.args.request.now))
-    (g.P.Device.standing c.args.platform.now) (g.P.Device.standing c.read_call_alone.new.platform) (Ok c.in-Ok.found) c.in-Ok.ensures.reads
+    (g.P.Device.standing c.args.platform.now) (g.P.Device.standing c.read_call_alone.new.platform) (Ok c.in-Ok.prepared.found)
+    c.in-Ok.ensures.reads
 
 pub invariant_of-result : goal.invariant_of-result
 invariant_of-result g c =
     reads_extend (g.M.Module.meaning c.args.module.now) c.args.offer.now (One c.args.request.now)
-    (g.P.Device.standing c.args.platform.now) (g.P.Device.standing c.read_call_alone.new.platform) c.in-Ok.found c.in-Ok.ensures.reads
+    (g.P.Device.standing c.args.platform.now) (g.P.Device.standing c.read_call_alone.new.platform) c.in-Ok.prepared.found
+    c.in-Ok.ensures.reads

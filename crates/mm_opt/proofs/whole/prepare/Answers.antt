@@ -11,4 +11,5 @@ returns-in-Err-clause-goes g c =
 pub returns-in-Ok-clause-goes : goal.returns-in-Ok-clause-goes
 returns-in-Ok-clause-goes g c =
     λ short. prepared (g.M.Module.meaning c.args.module.now) (g.P.Device.standing c.args.platform.now)
-    (g.P.Device.standing c.read_call_alone.new.platform) c.args.offer.now (One c.args.request.now) (Ok c.in-Ok.found) c.in-Ok.ensures.reads
+    (g.P.Device.standing c.read_call_alone.new.platform) c.args.offer.now (One c.args.request.now)
+    (Ok c.in-Ok.prepared.found) c.in-Ok.ensures.reads

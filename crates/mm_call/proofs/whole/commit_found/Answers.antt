@@ -1,7 +1,7 @@
 use Rattle.mm_machine.specs.Acts.{remaining_acts}
 use Rattle.mm_call.proofs.Below.{refl, Answered}
 use Rattle.mm_call.proofs.Machine.{commits_told}
-use Rattle.mm_call.proofs.whole.commit.Goals as goal
+use Rattle.mm_call.proofs.whole.commit_found.Goals as goal
 
 pub returns-in-Repeat-clause-commits : goal.returns-in-Repeat-clause-commits
 returns-in-Repeat-clause-commits g c = rw c.in-Repeat.is (record { ended = Answered c.in-Repeat.answer; ends = (refl, refl); gives = refl })
