@@ -20,7 +20,7 @@ pub use Rattle.std.proofs.lemmas.Map.Text.{is_eq-slice_cmp}
 pub use Rattle.std.proofs.lemmas.Option.{get_or_from_slice_get, slice_get_read, slice_get_within}
 pub use Rattle.std.proofs.lemmas.Slice.Eq.{bytes_eq-Decides}
 pub use Rattle.sha2.specs.Sha256.{sha256}
-pub use Rattle.mm_base.specs.Limits.{longest_line, most_events, most_members}
+pub use Rattle.mm_bytes.specs.Limits.{longest_line, most_events, most_members}
 pub use Rattle.mm_digest.specs.Messages.{start_message, variant_byte, zero_bytes, anchored_message, anchored_digest_of}
 pub use Rattle.mm_digest.specs.declared.variant.Variant.{Variant}
 pub use Rattle.mm_digest.specs.declared.variant.Variant.TheVariants.{Basic, Opt}

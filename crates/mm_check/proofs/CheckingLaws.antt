@@ -5,9 +5,9 @@ use Rattle.mm_check.proofs.Below.{Header, Event, world_of, plays_ok, plays_err, 
 use Rattle.mm_check.proofs.Below.{first_recorded_run, with_event, ComparedRun, first_compared_run, compared_run_after, CheckStage, AtHeader}
 use Rattle.mm_check.proofs.Below.{InEvents, InReplies, answer_to_header, answer_to_line, check_answer, check_closing, for_whole}
 use Rattle.mm_check.proofs.Below.{AreVerdicts, StageConcludes, run_lines, Verdicts}
-use Rattle.mm_lines.specs.Input.{lines_of, tail_of}
-use Rattle.mm_lines.specs.declared.replay_fault.ReplayFault.{ReplayFault}
-use Rattle.mm_lines.specs.declared.replay_fault.ReplayFault.TheVariants.{Memory, ReadFault, WriteFault, BadLine, LineLong, TooMuch}
+use Rattle.mm_base.specs.Input.{lines_of, tail_of}
+use Rattle.mm_base.specs.declared.replay_fault.ReplayFault.{ReplayFault}
+use Rattle.mm_base.specs.declared.replay_fault.ReplayFault.TheVariants.{Memory, ReadFault, WriteFault, BadLine, LineLong, TooMuch}
 use Rattle.mm_schedule.specs.Grammar.{event_at}
 use Rattle.mm_schedule.specs.Headers.{header_at}
 use Rattle.mm_play.specs.declared.player.LineRefusal.{LineRefusal}

@@ -8,6 +8,9 @@ use Rattle.mm_check.proofs.Below.{numbered_event_messages, messages_with, messag
 use Rattle.mm_check.proofs.Below.{pair_of, numbered_messages_from, numbered_messages, secured_event_in, expected_lines, IsForgedAt}
 use Rattle.mm_check.proofs.Below.{DecidesPremise, secured_event_by, IsFirstForged, StandsBehind, premise_by, ◌<◌, take, sha256, length-map}
 use Rattle.mm_check.proofs.Below.{length-take, most_events, CodeEvent, event_of, events_of}
+use Rattle.std.proofs.Common.{Bool}
+use Rattle.std.specs.Prelude.{not}
+use Rattle.mm_numbering.specs.Listing.{first_number_of}
 use Rattle.mm_check.specs.PremiseDecision.{LooksAtEvent}
 use Rattle.std.proofs.lemmas.List.Sums.{fold-append}
 use Rattle.mm_call.specs.Standing.{instance_by}
@@ -72,22 +75,28 @@ still_forged i es e n h = record {
 
 -- the first forged event, once one more is looked at
 
-pub looks_behind : (it : ExpectedState) (e : Event) (n number : ℕ) → LooksAtEvent it (Some n) e number (Some n)
+looks_behind : (it : ExpectedState) (e : Event) (n number : ℕ) → LooksAtEvent it (Some n) e number (Some n)
 looks_behind it e n number = λ header es after h count. still_forged (world_of header) es e n h
 
-pub looks_genuine : (it : ExpectedState) (e : Event) (number : ℕ) → DecidesLater it e true → LooksAtEvent it None e number None
+looks_genuine : (it : ExpectedState) (e : Event) (number : ℕ) → DecidesLater it e true → LooksAtEvent it None e number None
 looks_genuine it e number d = λ header es after h count.
     let i = world_of header in
     let here : IsGenuineEvent i (outcome_by_lists i es).state (outcome_by_lists i es).issued e =
     subst (λ (t : ExpectedState). IsGenuineEvent i t.history t.issued e) (stands_as header es it after) (d header es after) in
     genuine_push i es e first_history (first_snapshots i) h here
 
-pub looks_forged : (it : ExpectedState) (e : Event) (number : ℕ) → DecidesLater it e false → LooksAtEvent it None e number (Some number)
+looks_forged : (it : ExpectedState) (e : Event) (number : ℕ) → DecidesLater it e false → LooksAtEvent it None e number (Some number)
 looks_forged it e number d = λ header es after h count.
     let i = world_of header in
     let here : ¬ IsGenuineEvent i (outcome_by_lists i es).state (outcome_by_lists i es).issued e =
     subst (λ (t : ExpectedState). ¬ IsGenuineEvent i t.history t.issued e) (stands_as header es it after) (d header es after) in
     record { before = es; event = e; after = []; split = refl; place = count; genuine = h; forged = here }
+
+pub looks_then : (it : ExpectedState) (e : Event) (number : ℕ) (first : Option ℕ) (genuine : Bool) → DecidesLater it e genuine
+    → LooksAtEvent it first e number (first_number_of first (not genuine) number)
+looks_then it e number (Some n) genuine d = looks_behind it e n number
+looks_then it e number None true d = looks_genuine it e number d
+looks_then it e number None false d = looks_forged it e number d
 
 pub stands_next : (header : Header) (es : List Event) (e : Event) (old new : Decider) (heard : ExpectedOutcome) → StandsBehind header es old
     → IsHeard (world_of header) (outcome_by_lists (world_of header) es) e heard → IsAfter header (es ++ e ∷ []) new.expecting

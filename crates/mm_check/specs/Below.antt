@@ -1,9 +1,9 @@
 -- The words that the definitions of this crate take from the crates below.
 pub use Rattle.sha2.specs.Sha256.{sha256}
-pub use Rattle.mm_lines.specs.Input.{lines_of}
-pub use Rattle.mm_base.specs.Limits.{most_events}
-pub use Rattle.mm_lines.specs.declared.replay_fault.ReplayFault.{ReplayFault}
-pub use Rattle.mm_lines.specs.declared.replay_fault.ReplayFault.TheVariants.{Memory, ReadFault, WriteFault}
+pub use Rattle.mm_base.specs.Input.{lines_of}
+pub use Rattle.mm_bytes.specs.Limits.{most_events}
+pub use Rattle.mm_base.specs.declared.replay_fault.ReplayFault.{ReplayFault}
+pub use Rattle.mm_base.specs.declared.replay_fault.ReplayFault.TheVariants.{Memory, ReadFault, WriteFault}
 pub use Rattle.mm_digest.specs.Messages.{start_message, zero_bytes}
 pub use Rattle.mm_digest.specs.declared.digest.Digest.{Digest}
 pub use Rattle.mm_digest.specs.declared.variant.Variant.{Variant}

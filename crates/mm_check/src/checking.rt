@@ -11,7 +11,7 @@ use crate::nowhere::NullSink;
 use crate::player::CheckPlayer;
 use crate::texts::verdicts_text;
 use crate::verdicts::Verdicts;
-use mm_lines::{ReplayFault, Sink, Source, write_all};
+use mm_base::{ReplayFault, Sink, Source, write_all};
 use mm_play::play;
 use std::alloc::Global;
 

@@ -7,7 +7,7 @@ ghost use Rattle.mm_check.specs.Steps.{LineComesTo};
 
 use crate::reading::ScheduleReader;
 use crate::verdicts::{Agreement, Premise, Verdicts};
-use mm_base::{Bytes, Memory};
+use mm_bytes::{Bytes, Memory};
 use mm_numbering::{TextList, first_then};
 use mm_play::{LineRefusal, ReplyFault};
 use mm_schedule::{Event, Header};

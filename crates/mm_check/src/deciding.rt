@@ -1,21 +1,20 @@
 //! The premises and the expected lines of a list of events.
 
 ghost use Rattle.std.specs.Prelude.{◌≡◌, ◌+◌, ◌-◌, ◌<◌, ◌≤◌, ◌^◌, [], length, take, IfOk, OnOk};
-ghost use Rattle.mm_base.specs.Limits.{most_events};
+ghost use Rattle.mm_bytes.specs.Limits.{most_events};
 ghost use Rattle.mm_numbering.specs.Guards.{events_of};
 ghost use Rattle.mm_numbering.specs.Lists.{pair_of};
-ghost use Rattle.mm_schedule.specs.Events.{event_of};
 ghost use Rattle.mm_schedule.specs.Replies.{IsPrintable};
 ghost use Rattle.mm_expect.specs.ExpectedState.{IsAfter};
-ghost use Rattle.mm_check.specs.PremiseDecision.{LooksAtEvent, IsNewDecider, StandsBehind, TakesInEvent, DecidesRun, premise_by};
+ghost use Rattle.mm_check.specs.PremiseDecision.{IsNewDecider, StandsBehind, TakesInEvent, DecidesRun, premise_by};
 
 use crate::lines::{put_last, put_reply};
 use crate::verdicts::Premise;
-use mm_base::{Bytes, Memory};
+use mm_bytes::{Bytes, Memory};
 use mm_expect::{Expectation, ExpectedOutcome};
 use mm_history::Message;
 use mm_module::Module;
-use mm_numbering::{Numbers, TextList, first_secured};
+use mm_numbering::{Numbers, TextList, first_secured, first_then};
 use mm_schedule::{Event, Header};
 use std::alloc::Global;
 use std::mem;
@@ -96,26 +95,10 @@ impl Decider {
             (StandsBehind header.now (events_of (take (index + 1) events.now)) self.new) }
     {
         let event = &events[index];
-        let forged = self.first_forged(event, index as u32 + 1)?;
         let heard = self.expecting.event(event)?;
+        let forged = first_then(self.forged, !heard.is_genuine, index as u32 + 1);
         self.forged = forged;
         take_in(alloc, &mut self.numbers, &mut self.lines, &heard)
-    }
-
-    // The first forged event, once that of this number is looked at. Behind the first one none
-    // needs to be.
-    fn first_forged(&self, event: &Event, number: u32) -> Result<Option<u32>, Memory>
-        ensures { IfOk result (λ forged.
-            LooksAtEvent self.now.expecting self.now.forged (event_of event.now) number forged) }
-    {
-        match self.forged {
-            Some(first) => Ok(Some(first)),
-            None => match self.expecting.is_genuine(event) {
-                Err(memory) => Err(memory),
-                Ok(true) => Ok(None),
-                Ok(false) => Ok(Some(number)),
-            },
-        }
     }
 
     // What is told of the premises, by the first event at which others bring a guard.

@@ -3,7 +3,7 @@
 ghost use Rattle.std.specs.Prelude.{◌≡◌, ◌++◌, ◌∷◌, [], OnOk};
 ghost use Rattle.mm_schedule.specs.Replies.{IsPrintable, end_line, lines_of_reply};
 
-use mm_base::{Bytes, Memory};
+use mm_bytes::{Bytes, Memory};
 use mm_numbering::TextList;
 use mm_schedule::{Reply, put_end, put_line, reply_lines};
 use std::alloc::Global;

@@ -2,8 +2,8 @@
 
 ghost use Rattle.std.specs.Prelude.{None};
 
-use mm_base::Failed;
-use mm_lines::Sink;
+use mm_base::Sink;
+use mm_bytes::Failed;
 
 /// A sink that takes every byte and keeps none.
 #[derive(Drop)]

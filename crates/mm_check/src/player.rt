@@ -1,7 +1,7 @@
 //! The lines of a recorded run, one after another.
 
 ghost use Rattle.std.specs.Prelude.{◌≡◌, ◌≢◌, ◌≤◌, length, IfOk};
-ghost use Rattle.mm_base.specs.Limits.{longest_line};
+ghost use Rattle.mm_bytes.specs.Limits.{longest_line};
 ghost use Rattle.mm_schedule.specs.Headers.{header_at};
 ghost use Rattle.mm_check.specs.CheckStage.{CheckStage, AtHeader, check_answer, check_closing, remaining_check_lines, answer_to_header, answer_to_line};
 ghost use Rattle.mm_check.specs.CheckStageLaws.{check_counts_down, check_is_short};
@@ -11,7 +11,7 @@ ghost use Rattle.mm_check.specs.Verdicts.{StageConcludes};
 use crate::comparing::Comparison;
 use crate::reading::ScheduleReader;
 use crate::verdicts::Verdicts;
-use mm_base::{Bytes, Memory};
+use mm_bytes::{Bytes, Memory};
 use mm_play::{LineRefusal, Player, ReplyFault};
 use mm_schedule::read_header;
 use std::alloc::Global;

@@ -1,7 +1,7 @@
 //! The events of a recorded run, as they are read.
 
 ghost use Rattle.std.specs.Prelude.{◌≡◌, ◌≤◌, ◌++◌, ◌∷◌, [], length, IfOk, OnOk};
-ghost use Rattle.mm_base.specs.Limits.{longest_line, most_events};
+ghost use Rattle.mm_bytes.specs.Limits.{longest_line, most_events};
 ghost use Rattle.mm_replay.specs.Progress.{running_replay};
 ghost use Rattle.mm_schedule.specs.Grammar.{event_at};
 ghost use Rattle.mm_schedule.specs.declared.header.Header.{Header};
@@ -17,7 +17,7 @@ use crate::deciding::{Decision, decide};
 use crate::difference::difference;
 use crate::lines::{put_last, put_reply};
 use crate::verdicts::Verdicts;
-use mm_base::Memory;
+use mm_bytes::Memory;
 use mm_numbering::TextList;
 use mm_play::{LineRefusal, ReplyFault};
 use mm_replay::{ReplayProgress, Report};

@@ -5,7 +5,7 @@ ghost use Rattle.std.specs.Fmt.{decimal};
 ghost use Rattle.mm_check.specs.Verdicts.{agreement_text, premise_text, verdicts_text};
 
 use crate::verdicts::{Agreement, Premise, Verdicts};
-use mm_base::{Bytes, Memory, put_numbered};
+use mm_bytes::{Bytes, Memory, put_numbered};
 use std::alloc::Global;
 
 fn put_shared(into: &mut Bytes, first: u32, second: u32) -> Result<(), Memory>

@@ -2,5 +2,5 @@
 pub use Rattle.mm_evidence.proofs.Deciding.{clash_apart, clash_or, event_apart, event_offer, event_or, forgery_by, ForgesFrom, genuine_or}
 pub use Rattle.mm_evidence.proofs.Deciding.{names_by, offer_apart, offer_or}
 pub use Rattle.mm_evidence.proofs.FrontCases.{fronts_cases, IsLonger}
-pub use Rattle.mm_evidence.proofs.Fronts.{none_is_one, runs_until}
+pub use Rattle.mm_evidence.proofs.Fronts.{AreDecided, fronts_longest, MeetsPremises, none_is_one, runs_decided, runs_longest, runs_until}
 pub use Rattle.mm_evidence.proofs.Search.{any_in, any_some, found_or_none, pair_or_none}

@@ -13,7 +13,7 @@ pub use Rattle.std.proofs.lemmas.List.Folds.{Any-from_list_any, list_any_at}
 pub use Rattle.std.proofs.lemmas.Option.{get_or_from_slice_get, slice_get_within}
 pub use Rattle.std.proofs.lemmas.Slice.Eq.{bytes_eq-Decides}
 pub use Rattle.sha2.specs.Sha256.{sha256}
-pub use Rattle.mm_base.specs.Limits.{last_position}
+pub use Rattle.mm_bytes.specs.Limits.{last_position}
 pub use Rattle.mm_digest.specs.Messages.{zero_bytes}
 pub use Rattle.mm_digest.specs.declared.variant.Variant.{Variant}
 pub use Rattle.mm_digest.specs.declared.variant.Variant.TheVariants.{Basic, Opt}
@@ -43,4 +43,4 @@ pub use Rattle.mm_outcome.specs.Premises.{AreApartIn, AreGenuine, asked_batches,
 pub use Rattle.mm_outcome.specs.Premises.{IsGenuineOffer, IsGenuineRun, run_messages}
 pub use Rattle.mm_evidence.specs.Evidence.{clash, collision, forgery, guarded, HasClash, HasEvidence, IsForged, zero_digest}
 pub use Rattle.mm_evidence.specs.Laws.{ForgedAreNew, FrontsAreLongest, IsDecidedRun, IsMadeUp, IsOneRunOrEvidence, IsFrontWithoutEvidence}
-pub use Rattle.mm_evidence.specs.Laws.{RunsUntil, StopsAt, RepliesAreOneRun}
+pub use Rattle.mm_evidence.specs.Laws.{IsLongest, RunsUntil, StopsAt, RepliesAreOneRun}

@@ -5,25 +5,35 @@ use Rattle.mm_evidence.specs.Below.{Instance, Event, Offer, Flip, Raw, outcome_b
 use Rattle.mm_evidence.specs.Below.{IsGenuineRun, offered_bytes}
 use Rattle.mm_evidence.specs.Evidence.{HasEvidence, IsForged}
 
--- Behind these events there is none, or the next one gives evidence.
-abbrev pub StopsAt : Instance → List Event → List Event → Type 0
-StopsAt i front [] = Unit {0}
-StopsAt i front (event ∷ later) = HasEvidence i (front ++ event ∷ [])
+-- Of events of any kind, and of what is evidence in them.
+module _ {E : Type 0} (Gives : List E → Type 0) where
+  -- Behind these events there is none, or the next one gives evidence.
+  abbrev pub StopsAt : List E → List E → Type 0
+  StopsAt front [] = Unit {0}
+  StopsAt front (event ∷ later) = Gives (front ++ event ∷ [])
 
--- These are the events before the first one that gives evidence.
-pub record IsFrontWithoutEvidence (i : Instance) (events front : List Event) : Type 0 where
-  pub rest : List Event
-  pub split : events ≡ front ++ rest
-  pub clean : (first : List Event) (event : Event) (later : List Event)
-      → front ≡ first ++ event ∷ later → HasEvidence i (first ++ event ∷ []) → ⊥
-  pub stops : StopsAt i front rest
+  -- These are the events before the first one that gives evidence.
+  pub record IsFrontWithoutEvidence (events front : List E) : Type 0 where
+    pub rest : List E
+    pub split : events ≡ front ++ rest
+    pub clean : (first : List E) (event : E) (later : List E)
+        → front ≡ first ++ event ∷ later → Gives (first ++ event ∷ []) → ⊥
+    pub stops : StopsAt front rest
 
--- Of each first part of the events something holds, up to the first event that gives evidence.
-pub record RunsUntil (i : Instance) (events : List Event) (Holds : List Event → Type 0) : Type 0
-  where
-    pub front : List Event
-    pub unbroken : IsFrontWithoutEvidence i events front
-    pub one_run : (first later : List Event) → front ≡ first ++ later → Holds first
+  -- Of each first part of the events something holds, up to the first event that gives evidence.
+  pub record RunsUntil (events : List E) (Holds : List E → Type 0) : Type 0 where
+    pub front : List E
+    pub unbroken : IsFrontWithoutEvidence events front
+    pub one_run : (first later : List E) → front ≡ first ++ later → Holds first
+
+  -- The events before the first one that gives evidence are these alone; if there are any, they meet
+  -- the premises; and so many first ones as meet them are among these.
+  pub record IsLongest (Meets : List E → Type 0) (events front : List E) : Type 0 where
+    pub alone : (other : List E) → IsFrontWithoutEvidence events other → other ≡ front
+    pub meets : (first : List E) (event : E) (later : List E)
+        → front ≡ first ++ event ∷ later → Meets (first ++ event ∷ [])
+    pub longest : (first later : List E) → events ≡ first ++ later → Meets first
+        → (more : List E) × (front ≡ first ++ more)
 
 -- A run meets the premises, or gives evidence; and never both.
 pub record IsDecidedRun (i : Instance) (events : List Event) : Type 0 where
@@ -36,23 +46,14 @@ RepliesAreOneRun i events =
     let it = outcome_by_digests i events in
     IsOneRun i events it.replies it.state.count it.issued
 
--- The events before the first one that gives evidence are these alone; if there are any, they meet
--- the premises; and so many first ones as meet them are among these.
-pub record IsLongest (i : Instance) (events front : List Event) : Type 0 where
-  pub alone : (other : List Event) → IsFrontWithoutEvidence i events other → other ≡ front
-  pub meets : (first : List Event) (event : Event) (later : List Event)
-      → front ≡ first ++ event ∷ later
-      → IsClearRun i (first ++ event ∷ []) × IsGenuineRun i (first ++ event ∷ [])
-  pub longest : (first later : List Event) → events ≡ first ++ later → IsClearRun i first
-      → IsGenuineRun i first → (more : List Event) × (front ≡ first ++ more)
-
 -- Of every schedule the replies are those of one run, up to the first event that gives evidence.
 abbrev pub IsOneRunOrEvidence : Instance → List Event → Type 0
-IsOneRunOrEvidence i events = RunsUntil i events (RepliesAreOneRun i)
+IsOneRunOrEvidence i events = RunsUntil (HasEvidence i) events (RepliesAreOneRun i)
 
 abbrev pub FrontsAreLongest : Instance → List Event → Type 0
 FrontsAreLongest i events =
-    (front : List Event) → IsFrontWithoutEvidence i events front → IsLongest i events front
+    (front : List Event) → IsFrontWithoutEvidence (HasEvidence i) events front
+    → IsLongest (HasEvidence i) (λ first. IsClearRun i first × IsGenuineRun i first) events front
 
 -- the offer has bytes of its own, or changes those of an issued snapshot
 abbrev pub IsMadeUp : Offer → Type 0

@@ -2,7 +2,7 @@
 //! it follows from.
 
 ghost use Rattle.std.specs.Prelude.{◌≤◌, ℕ, List};
-ghost use Rattle.mm_base.specs.Limits.{last_position};
+ghost use Rattle.mm_bytes.specs.Limits.{last_position};
 ghost use Rattle.mm_digest.specs.declared.variant.Variant.{Variant};
 ghost use Rattle.mm_module.specs.Meaning.{IsLawful, Meaning};
 ghost use Rattle.mm_model.specs.History.{total_of};

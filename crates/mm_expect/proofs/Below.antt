@@ -8,7 +8,7 @@ pub use Rattle.std.proofs.Common.{take, true, zero, ℕ}
 pub use Rattle.std.proofs.lemmas.Bool.Decides.{Decides-eqb}
 pub use Rattle.std.proofs.lemmas.List.{append-nil, map-append, same_from_push}
 pub use Rattle.std.proofs.lemmas.List.Elements.{filter_more}
-pub use Rattle.mm_base.specs.Limits.{last_position, limit_of, longest_request}
+pub use Rattle.mm_bytes.specs.Limits.{last_position, limit_of, longest_request}
 pub use Rattle.mm_digest.specs.Messages.{start_digest_of, zero_bytes}
 pub use Rattle.mm_digest.specs.declared.variant.Variant.{Variant}
 pub use Rattle.mm_digest.specs.declared.variant.Variant.TheVariants.{Basic, Opt}
@@ -84,7 +84,7 @@ pub use Rattle.mm_expect.specs.Calls.{AdmitsBatch, repeat_in, ChronicleCalls, ch
 pub use Rattle.mm_expect.specs.Calls.{changing_steps, ending_of, NewCallGoesOn, new_ending, count_after_batch}
 pub use Rattle.mm_expect.specs.ChronicleEvents.{call_outcome_on, listed_chronicle, ListedChronicle, moves_if, ChronicleGoesByCall, ChronicleGoesByEvent}
 pub use Rattle.mm_expect.specs.GenuineOffers.{EachOfferIsDecided, IssuedAreGenuine}
-pub use Rattle.mm_expect.specs.OfferDecision.{AreIssued, DecidesBytes, DecidesEvent, DecidesOffer, IsAmong}
+pub use Rattle.mm_expect.specs.OfferDecision.{AreIssued, DecidesEvent, DecidesOffer}
 pub use Rattle.mm_expect.specs.ChronicleView.{barrier_of, instance_with, ChronicleView, chronicle_instance, state_after_batch}
 pub use Rattle.mm_expect.specs.ChronicleView.{outputs_of_batch, ChronicleGoes}
 pub use Rattle.mm_expect.specs.ExpectedState.{expected_state_after, first_expected_state, IsAfter, ExpectedState}

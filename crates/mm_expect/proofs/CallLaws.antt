@@ -8,7 +8,10 @@ use Rattle.mm_expect.proofs.Below.{instance_with, chronicle_instance}
 use Rattle.mm_expect.proofs.Below.{append-nil, None, course_of, Closes, Stops}
 use Rattle.mm_call.specs.Checkpoints.{CheckpointOutcome, checkpoint_outcome}
 use Rattle.mm_digest.specs.Messages.{anchored_message}
-use Rattle.mm_model.specs.History.{register_value_of}
+use Rattle.mm_model.specs.Chains.{guard}
+use Rattle.mm_model.specs.History.{Commit, history_after_commit, register_value_of}
+use Rattle.mm_model.specs.Messages.{messages_for_move}
+use Rattle.mm_model.specs.MessagesWords.{move_messages}
 use Rattle.mm_expect.specs.ChronicleView.{extension_messages, segment_closing_messages}
 use Rattle.mm_digest.specs.declared.digest.Digest.{Digest}
 use Rattle.mm_expect.specs.declared.calls.ClosingResult.{ClosingResult}
@@ -135,6 +138,37 @@ told_extension {r} {listed = listed} value same opt marks e =
     ∙ ap (λ (o : ChronicleView). record o {
       extending = o.extending ++ extension_messages o.variant (register_value_of (chronicle_instance o) o.history) value;
     }) same
+
+-- a batch that is committed in an open segment, once its message is listed
+pub grow_goes : {old mid told new : ChronicleView} {b : Batch} {value : List ℕ} → mid ≡ old → old.variant ≡ Opt
+    → old.history.is_open ≡ true → value ≡ guard (chronicle_instance old).barrier b
+    → told ≡ record mid {
+      extending = mid.extending
+          ++ extension_messages mid.variant (register_value_of (chronicle_instance mid) mid.history) value;
+    }
+    → new ≡ record told { history = history_after_commit Opt true told.history b } → ChronicleGoes old new (Commit b ∷ [])
+grow_goes {old} {mid} {told} {new} {b} {value} same va op guards t n =
+    let i : Instance = chronicle_instance old in
+    let register : List ℕ = register_value_of i old.history in
+    let whole : new ≡ record old {
+      history = history_after_commit Opt true old.history b;
+      extending = old.extending ++ extension_messages old.variant register value;
+    } =
+    n ∙ ap (λ (r : ChronicleView). record r { history = history_after_commit Opt true r.history b })
+    (t ∙ ap (λ (r : ChronicleView). record r {
+      extending = r.extending ++ extension_messages r.variant (register_value_of (chronicle_instance r) r.history) value;
+    }) same) in
+    let messages : extension_messages old.variant register value ≡ move_messages i old.history (Commit b) =
+    (λ j. extension_messages (va j) register (guards j))
+    ∙ (λ j. messages_for_move (sym va j) (sym op j) i old.history (Commit b)) in
+    record {
+      variant = ap (λ (r : ChronicleView). r.variant) whole;
+      «module» = ap (λ (r : ChronicleView). r.«module») whole;
+      history = ap (λ (r : ChronicleView). r.history) whole ∙ (λ j. history_after_commit (sym va j) (sym op j) old.history b);
+      extending = ap (λ (r : ChronicleView). r.extending) whole
+          ∙ ap (λ (m : List (List ℕ)). old.extending ++ m) (messages ∙ sym (append-nil (move_messages i old.history (Commit b))));
+      closing = ap (λ (r : ChronicleView). r.closing) whole ∙ sym (append-nil old.closing);
+    }
 
 pub told_closing : {r old : ChronicleView} {marks : HistoryMarks} {listed : List (List ℕ)} → r ≡ old → r.variant ≡ Opt
     → marks ≡ marks_of (chronicle_instance r) r.history

@@ -3,7 +3,7 @@ use Rattle.mm_expect.proofs.Below.{◌≡◌, ℕ, Bool, true, List, Option, Non
 use Rattle.mm_expect.proofs.Below.{Variant, Basic, Opt, Meaning, AnyModule, meaning_of, any_is_lawful, Content, Instance, opt_instance}
 use Rattle.mm_expect.proofs.Below.{NamesPosition, IsGenuine, right_content, History, instance_by, Header, Event, offered_bytes}
 use Rattle.mm_expect.proofs.Below.{outcome_by_lists, world_of, world_key, world_barrier, IsIssued, IsGenuineEvent, basic_issued_named}
-use Rattle.mm_expect.proofs.Below.{opt_issued_named, AreIssued, IsAmong, DecidesBytes, DecidesOffer, DecidesEvent, IsDecided, ChronicleView}
+use Rattle.mm_expect.proofs.Below.{opt_issued_named, AreIssued, DecidesOffer, DecidesEvent, IsDecided, ChronicleView}
 use Rattle.mm_expect.proofs.Below.{barrier_of, instance_with, chronicle_instance, ExpectedState, IsAfter}
 use Rattle.std.specs.Prelude.{Result}
 use Rattle.mm_schedule.specs.declared.event.Offer.{Offer}
@@ -43,15 +43,11 @@ pub genuine_some : {E : Type 0} (r : Result Bool E) (i : Instance) (y : History)
     → IfOk r (λ true_or_not. IsDecided true_or_not (IsGenuine i y bytes))
 genuine_some r i y bytes {content} e = IfOk-weaker r _ _ (λ true_or_not n. (offers_decided i).right y bytes content true_or_not e n)
 
-pub decided_none : (i : Instance) (y : History) (issued : List (List ℕ)) (offer : Offer) → offered_bytes issued offer ≡ None
-    → DecidesOffer i y issued offer true
-decided_none i y issued offer e are = subst (IsGenuineOffer i y) (sym e) tt
-
 pub decided_some : {E : Type 0} (r : Result Bool E) (i : Instance) (y : History) (issued : List (List ℕ)) (offer : Offer)
-    {bytes given : List ℕ} → offered_bytes issued offer ≡ Some bytes → given ≡ bytes → IfOk r (DecidesBytes i y issued given)
+    {bytes : List ℕ} → offered_bytes issued offer ≡ Some bytes → IfOk r (λ true_or_not. IsDecided true_or_not (IsGenuine i y bytes))
     → IfOk r (DecidesOffer i y issued offer)
-decided_some r i y issued offer e same = IfOk-weaker r _ _
-    (λ b d are. subst (λ (f : Option (List ℕ)). IsDecided b (IsGenuineOffer i y f)) (ap Some same ∙ sym e) (d are))
+decided_some r i y issued offer e = IfOk-weaker r _ _
+    (λ b d are. subst (λ (f : Option (List ℕ)). IsDecided b (IsGenuineOffer i y f)) (sym e) d)
 
 -- an issued snapshot, and what is offered beside one
 module _ (r : ChronicleView) (issued : List (List ℕ)) where
@@ -65,9 +61,6 @@ module _ (r : ChronicleView) (issued : List (List ℕ)) where
       → DecidesOffer (chronicle_instance r) r.history issued offer true
   decided_issued offer number is are =
       subst (IsGenuineOffer (chronicle_instance r) r.history) (sym is) (issued_found number (slice_get issued number) refl are)
-
-  pub decided_among : (bytes : List ℕ) → IsAmong bytes issued → DecidesBytes (chronicle_instance r) r.history issued bytes true
-  decided_among bytes among are = issued_found among.0 (Some bytes) among.1 are
 
 -- what is decided of the lists, whatever the key, is decided of what contracts see
 

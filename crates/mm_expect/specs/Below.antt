@@ -1,5 +1,5 @@
 -- The words that the definitions of this crate take from the crates below.
-pub use Rattle.mm_base.specs.Limits.{last_position}
+pub use Rattle.mm_bytes.specs.Limits.{last_position}
 pub use Rattle.mm_digest.specs.Messages.{anchored_message, extended_message, zero_bytes}
 pub use Rattle.mm_digest.specs.declared.variant.Variant.{Variant}
 pub use Rattle.mm_digest.specs.declared.variant.Variant.TheVariants.{Basic, Opt}

@@ -1,10 +1,10 @@
 //! What a call answers.
 
 ghost use Rattle.std.specs.Prelude.{◌≡◌, [], IfOk, OnOk};
-ghost use Rattle.mm_base.specs.Limits.{last_position};
+ghost use Rattle.mm_bytes.specs.Limits.{last_position};
 
 use crate::chronicle::Chronicle;
-use mm_base::{Bytes, Memory};
+use mm_bytes::{Bytes, Memory};
 use mm_call::AskResult;
 use mm_digest::{Variant, zero};
 use mm_model::BatchAnswer;

@@ -4,7 +4,7 @@ ghost use Rattle.std.specs.Prelude.{◌≡◌};
 
 use crate::chronicle::Chronicle;
 use crate::course::{ChronicleMove, ChronicleStep, is_made_at};
-use mm_base::Memory;
+use mm_bytes::Memory;
 use mm_call::AskResult;
 use mm_digest::Variant;
 use mm_model::Refusal;
@@ -15,7 +15,7 @@ use mm_seal::{Body, SealingKey};
 
 impl Chronicle {
     ghost use Rattle.std.specs.Prelude.{◌≡◌, ◌≤◌, ℕ, List, [], ◌∷◌, true, false, IfOk};
-    ghost use Rattle.mm_base.specs.Limits.{last_position};
+    ghost use Rattle.mm_bytes.specs.Limits.{last_position};
     ghost use Rattle.mm_digest.specs.declared.variant.Variant.TheVariants.{Opt};
     ghost use Rattle.mm_model.specs.Steps.{Reads};
     ghost use Rattle.mm_module.specs.Batches.{batch_of};

@@ -2,13 +2,13 @@
 
 ghost use Rattle.std.specs.Prelude.{◌≡◌};
 
-use mm_base::{Bytes, Memory};
+use mm_bytes::{Bytes, Memory};
 use mm_call::{BatchRun, run_batch};
 use mm_digest::{Digest, Variant, zero};
 use mm_history::{
-    HistoryLists, HistoryMarks, Message, Waymarks, anchored_message, joined, list_one,
+    HistoryLists, HistoryMarks, KnownDigests, Message, Waymarks, anchored_message, joined,
+    list_known,
 };
-use mm_model::guard;
 use mm_module::{Batch, Module, Outputs};
 use mm_modules::AnyModule;
 use mm_outcome::world_barrier;
@@ -31,6 +31,7 @@ pub(crate) struct Chronicle {
     /// What the module said to the last batch.
     pub(crate) said: Outputs,
     pub(crate) waymarks: Waymarks,
+    pub(crate) known: KnownDigests,
     pub(crate) extending: Vec<Message>,
     pub(crate) closing: Vec<Message>,
 }
@@ -81,6 +82,7 @@ impl Chronicle {
         let lists = HistoryLists::new(alloc);
         let marks = HistoryMarks::first(variant, module.id());
         let waymarks = Waymarks::first(alloc, &lists, &marks, variant, state.as_slice())?;
+        let known = KnownDigests::new(alloc, variant)?;
         Ok(Chronicle {
             alloc,
             variant,
@@ -91,6 +93,7 @@ impl Chronicle {
             state,
             said: Outputs::new(alloc),
             waymarks,
+            known,
             extending: Vec::new(alloc),
             closing: Vec::new(alloc),
         })
@@ -131,6 +134,7 @@ impl Chronicle {
 
     // Lists the message by which the register takes in a value: none in Basic, which has no
     // register.
+    #[tactic(auto, unfolding(mm_digest::specs::Messages::extended_digest_of))]
     fn tell_extension(&mut self, value: &Digest) -> Result<(), Memory>
         ensures { OnOk result (self.new ≡ record self.old {
           extending = self.old.extending
@@ -140,10 +144,14 @@ impl Chronicle {
     {
         match self.variant {
             Variant::Basic => Ok(()),
-            Variant::Opt => list_one(
-                joined(self.alloc, &self.marks.register.bytes, &value.bytes),
-                &mut self.extending,
-            ),
+            Variant::Opt => {
+                let next = self.known.extended(&self.marks.register, value);
+                list_known(
+                    joined(self.alloc, &self.marks.register.bytes, &value.bytes),
+                    &next,
+                    &mut self.extending,
+                )
+            }
         }
     }
 
@@ -153,8 +161,17 @@ impl Chronicle {
     {
         self.tell_extension(value)?;
         self.lists.take_in(value)?;
-        self.marks = self.marks.with_value(value);
+        self.marks = self.marks.with_value(&mut self.known, value);
         Ok(())
+    }
+
+    // The value by which a batch extends the register.
+    fn guard_of(&mut self, batch: Batch<'_>) -> Digest
+        ensures value { result.bytes
+            ≡ guard (chronicle_instance self.old).barrier (batch_of batch.entry) }
+        ensures same { self.new ≡ self.old }
+    {
+        self.known.guard(&self.barrier, batch)
     }
 
     /// The core puts the guard of a batch into the register, which isn't committed yet.
@@ -162,7 +179,7 @@ impl Chronicle {
         ensures { OnOk result
             (ChronicleGoes self.old self.new (Placed (batch_of batch.entry) ∷ [])) }
     {
-        let value = guard(&self.barrier, batch);
+        let value = self.guard_of(batch);
         self.bring(&value)
     }
 
@@ -176,6 +193,7 @@ impl Chronicle {
     }
 
     // Lists the message by which a segment is closed: none in Basic, which has no segments.
+    #[tactic(auto, unfolding(mm_digest::specs::Messages::anchored_digest_of))]
     fn tell_closing(&mut self) -> Result<(), Memory>
         ensures { OnOk result (self.new ≡ record self.old {
           closing = self.old.closing
@@ -186,10 +204,14 @@ impl Chronicle {
     {
         match self.variant {
             Variant::Basic => Ok(()),
-            Variant::Opt => list_one(
-                anchored_message(self.alloc, &self.marks.cell, &self.marks.register),
-                &mut self.closing,
-            ),
+            Variant::Opt => {
+                let shut = self.known.anchored(&self.marks.cell, &self.marks.register);
+                list_known(
+                    anchored_message(self.alloc, &self.marks.cell, &self.marks.register),
+                    &shut,
+                    &mut self.closing,
+                )
+            }
         }
     }
 
@@ -201,7 +223,9 @@ impl Chronicle {
         let has_value = self.lists.has_value();
         let is_bare = self.lists.is_bare();
         self.lists.close()?;
-        self.marks = self.marks.closed(self.variant, has_value, is_bare);
+        self.marks = self
+            .marks
+            .closed(&mut self.known, self.variant, has_value, is_bare);
         self.waymarks.keep_stage(&self.lists, &self.marks)
     }
 
@@ -296,7 +320,7 @@ impl Chronicle {
         ensures { OnOk result
             (ChronicleGoes self.old self.new (Commit (batch_of batch.entry) ∷ [])) }
     {
-        let value = guard(&self.barrier, batch);
+        let value = self.guard_of(batch);
         self.tell_extension(&value)?;
         self.add_inside(batch, size, ran, &value)
     }
@@ -323,7 +347,7 @@ impl Chronicle {
             }) }
     {
         self.lists.add_inside(batch)?;
-        self.marks = self.marks.grown(size, value);
+        self.marks = self.marks.grown(&mut self.known, size, value);
         mem::swap(&mut self.state, &mut ran.state);
         mem::swap(&mut self.said, &mut ran.outputs);
         Ok(())
@@ -346,7 +370,7 @@ impl Chronicle {
         ensures { OnOk result
             (ChronicleGoes self.old self.new (Commit (batch_of batch.entry) ∷ [])) }
     {
-        let value = guard(&self.barrier, batch);
+        let value = self.known.guard(&self.barrier, batch);
         let is_alone = self.lists.is_alone();
         self.lists.open(batch)?;
         let register = self.lists.register(&self.barrier);

@@ -4,7 +4,7 @@ ghost use Rattle.std.specs.Prelude.{◌≡◌};
 ghost use Rattle.mm_platform.specs.Steps.{fault_at, is_made_at};
 
 use crate::chronicle::Chronicle;
-use mm_base::Memory;
+use mm_bytes::Memory;
 use mm_module::Batch;
 use mm_outcome::CallPlan;
 use mm_platform::{StepFault, Stop};

@@ -1,7 +1,8 @@
 //! The fold by lists.
 
-ghost use Rattle.std.specs.Prelude.{◌≡◌, ◌++◌, false, IfOk, OnOk, option_to_list};
+ghost use Rattle.std.specs.Prelude.{◌≡◌, ◌≤◌, ◌++◌, ℕ, List, true, false, IfOk, OnOk, option_to_list};
 ghost use Rattle.std.specs.Result.{result_ok};
+ghost use Rattle.mm_bytes.specs.Limits.{last_position};
 ghost use Rattle.mm_module.specs.Batches.{batch_of};
 ghost use Rattle.mm_model.specs.Long.{is_long};
 ghost use Rattle.mm_call.specs.CallPremises.{right_messages};
@@ -11,13 +12,14 @@ ghost use Rattle.mm_outcome.specs.Folds.{moves_after_stop};
 ghost use Rattle.mm_outcome.specs.WorldState.{world_key};
 ghost use Rattle.mm_expect.specs.ChronicleEvents.{listed_chronicle, ChronicleGoesByCall, ChronicleGoesByEvent, moves_if};
 ghost use Rattle.mm_expect.specs.ChronicleView.{ChronicleGoes, chronicle_instance};
-ghost use Rattle.mm_expect.specs.RightOffer.{told_offer};
+ghost use Rattle.mm_expect.specs.OfferDecision.{DecidesOffer, DecidesEvent};
+ghost use Rattle.mm_expect.specs.RightOffer.{told_offer, right_offer};
 
 use crate::calls::ClosingResult;
 use crate::chronicle::Chronicle;
-use crate::offers::{is_genuine, right_body};
+use crate::offers::{is_genuine_offer, right_body};
 use crate::replies::{EventReply, closing_said, quiet, said_of};
-use mm_base::{Bytes, Memory};
+use mm_bytes::{Bytes, Memory};
 use mm_call::AskResult;
 use mm_digest::Digest;
 use mm_history::{Message, list_place};
@@ -37,6 +39,8 @@ pub struct ExpectedOutcome {
     pub reply: Reply,
     /// The messages of the event, in the order of their numbers; one may have come before.
     pub messages: Vec<Message>,
+    /// Whether each right offer of the event names a position of the history before it.
+    pub is_genuine: bool,
 }
 
 /// A schedule followed by lists, which contracts see as the header, the history and the issued
@@ -67,19 +71,21 @@ impl Model for Expectation {
 
 // Lists the messages of what is asked, where the offer is right.
 fn list_asked(
-    chronicle: &Chronicle,
+    chronicle: &mut Chronicle,
     offer: &Result<Body<'_>, Refusal>,
     batch: Batch<'_>,
     messages: &mut Vec<Message>,
 ) -> Result<(), Memory>
-    ensures { OnOk result (messages.new.items
-        ≡ messages.old.items ++ right_messages (chronicle_instance chronicle.now)
+    ensures messages { OnOk result (messages.new.items
+        ≡ messages.old.items ++ right_messages (chronicle_instance chronicle.old)
         (batch_of batch.entry) (result_ok (told_offer offer.now))) }
+    ensures same { chronicle.new ≡ chronicle.old }
 {
     match offer {
         Err(_) => Ok(()),
         Ok(body) => list_place(
             chronicle.alloc,
+            &mut chronicle.known,
             &chronicle.barrier,
             &body.place,
             batch,
@@ -100,27 +106,29 @@ fn restore(chronicle: &mut Chronicle, stop: Stop, is_broken: bool)
     }
 }
 
-// A call that offers these bytes: what is said, and its messages.
+// A call that offers bytes which are read so: what is said, and its messages.
 fn call_and_list(
     chronicle: &mut Chronicle,
     key: &mut SealingKey,
     course: &CallPlan<'_>,
-    bytes: &[u8],
+    read: &Result<Body<'_>, Refusal>,
     batch: Batch<'_>,
     messages: &mut Vec<Message>,
 ) -> Result<EventReply, Memory>
     requires key { key.old ≡ world_key }
+    requires few { IfOk read.now (λ body. body.position ≤ last_position) }
     requires short { is_long (batch_of batch) ≡ false }
     ensures key { key.new ≡ key.old }
-    ensures went { IfOk result (ChronicleGoesByCall
+    ensures went { (bytes : List ℕ)
+        → told_offer read.now ≡ right_offer (chronicle_instance chronicle.old) bytes
+        → IfOk result (ChronicleGoesByCall
         (listed_chronicle chronicle.old messages.old.items)
         (listed_chronicle chronicle.new messages.new.items)
-        course.now.stop course.now.meddles.now bytes.now (batch_of batch.entry)) }
+        course.now.stop course.now.meddles.now bytes (batch_of batch.entry)) }
 {
-    let offer = right_body(chronicle, key, bytes);
-    list_asked(chronicle, &offer, batch, messages)?;
+    list_asked(chronicle, read, batch, messages)?;
     chronicle.forget_messages();
-    let ended = chronicle.call(key, course, &offer, batch)?;
+    let ended = chronicle.call(key, course, read, batch)?;
     chronicle.hand_messages(messages)?;
     let is_broken = is_broken(&ended);
     restore(chronicle, course.stop, is_broken);
@@ -137,7 +145,8 @@ fn is_broken(ended: &AskResult) -> bool
     }
 }
 
-// An event that asks for a batch of what is offered.
+// An event that asks for a batch of what is offered, which is looked at once: for whether it is
+// genuine, and for the call.
 fn follow_ask(
     chronicle: &mut Chronicle,
     key: &mut SealingKey,
@@ -146,28 +155,30 @@ fn follow_ask(
     course: &CallPlan<'_>,
     batch: Batch<'_>,
     messages: &mut Vec<Message>,
+    is_genuine: &mut bool,
 ) -> Result<EventReply, Memory>
     requires key { key.old ≡ world_key }
     ensures key { key.new ≡ key.old }
+    ensures decides { OnOk result
+        (DecidesOffer (chronicle_instance chronicle.old) chronicle.old.history issued.now offer.now
+        is_genuine.new) }
     ensures went { IfOk result (ChronicleGoesByEvent
         (listed_chronicle chronicle.old messages.old.items)
         (listed_chronicle chronicle.new messages.new.items) issued.now
         (Ask course.now.meddles.now course.now.stop offer.now (batch_of batch.entry))) }
 {
     match offered(chronicle.alloc, issued, offer)? {
-        None => Ok(quiet(Reply::No(Cause::Snapshot))),
+        None => {
+            *is_genuine = true;
+            Ok(quiet(Reply::No(Cause::Snapshot)))
+        }
         Some(found) => {
+            let read = right_body(chronicle, key, found.bytes());
+            *is_genuine = is_genuine_offer(chronicle, offer, &read)?;
             if is_long(&batch) {
                 return Ok(quiet(Reply::No(Cause::Long)));
             }
-            call_and_list(
-                chronicle,
-                key,
-                course,
-                found.bytes(),
-                normal(batch),
-                messages,
-            )
+            call_and_list(chronicle, key, course, &read, normal(batch), messages)
         }
     }
 }
@@ -223,16 +234,21 @@ fn follow_extend(
     Ok(quiet(Reply::Extended))
 }
 
-// One event.
+// One event, and whether it is genuine: each right offer of it names a position of the history.
 fn follow(
     chronicle: &mut Chronicle,
     key: &mut SealingKey,
     issued: &[Bytes],
     event: &Event,
     messages: &mut Vec<Message>,
+    is_genuine: &mut bool,
 ) -> Result<EventReply, Memory>
-    requires { key.old ≡ world_key }
+    requires key { key.old ≡ world_key }
+    requires genuine { is_genuine.old ≡ true }
     ensures key { key.new ≡ key.old }
+    ensures decides { OnOk result
+        (DecidesEvent (chronicle_instance chronicle.old) chronicle.old.history issued.now
+        (event_of event.now) is_genuine.new) }
     ensures went { IfOk result (ChronicleGoesByEvent
         (listed_chronicle chronicle.old messages.old.items)
         (listed_chronicle chronicle.new messages.new.items) issued.now
@@ -250,7 +266,9 @@ fn follow(
                 meddles: meddles.listed(),
             };
             let batch = Batch::One(request.as_slice());
-            follow_ask(chronicle, key, issued, offer, &course, batch, messages)
+            follow_ask(
+                chronicle, key, issued, offer, &course, batch, messages, is_genuine,
+            )
         }
         Event::Batch {
             meddles,
@@ -263,7 +281,9 @@ fn follow(
                 meddles: meddles.listed(),
             };
             let batch = Batch::Many(text.as_slice());
-            follow_ask(chronicle, key, issued, offer, &course, batch, messages)
+            follow_ask(
+                chronicle, key, issued, offer, &course, batch, messages, is_genuine,
+            )
         }
         Event::Checkpoint { meddles, stop } => {
             let course = CallPlan {
@@ -295,7 +315,7 @@ fn keep(issued: &mut Vec<Bytes>, said: EventReply) -> Result<Reply, Memory>
 
 impl Expectation {
     ghost use Rattle.std.specs.Prelude.{◌≡◌, ◌<◌, ◌≤◌, ◌+◌, ◌^◌, ◌++◌, [], ◌∷◌, length, IfOk, OnOk};
-    ghost use Rattle.mm_base.specs.Limits.{last_position};
+    ghost use Rattle.mm_bytes.specs.Limits.{last_position};
     ghost use Rattle.mm_model.specs.History.{total_of};
     ghost use Rattle.mm_model.specs.Standing.{issued_bytes};
     ghost use Rattle.mm_expect.specs.ChronicleView.{instance_with};
@@ -367,29 +387,29 @@ impl Expectation {
         ensures hears { IfOk result (HearsEvent (world_of self.old.header) self.old.history
             self.old.issued (event_of event.now)) }
         ensures after { OnOk result (StandsLater self.old (event_of event.now) self.new) }
+        ensures decides { IfOk result
+            (λ heard. DecidesLater self.old (event_of event.now) heard.is_genuine) }
 
         // The reply can be printed, and at most one snapshot is issued.
         ensures printable { IfOk result (λ heard. IsPrintable heard.reply) }
         ensures grows { OnOk result (length self.new.issued ≤ length self.old.issued + 1) }
     {
         let mut messages = Vec::new(self.alloc);
+        let mut is_genuine = true;
         let said = follow(
             &mut self.chronicle,
             &mut self.key,
             self.issued.as_slice(),
             event,
             &mut messages,
+            &mut is_genuine,
         )?;
         let reply = keep(&mut self.issued, said)?;
-        Ok(ExpectedOutcome { reply, messages })
-    }
-
-    /// Whether the offer of an event that is to come names a position of the history, where it is
-    /// right.
-    pub fn is_genuine(&self, event: &Event) -> Result<bool, Memory>
-        ensures { IfOk result (λ yes. DecidesLater self.now (event_of event.now) yes) }
-    {
-        is_genuine(&self.chronicle, &self.key, self.issued.as_slice(), event)
+        Ok(ExpectedOutcome {
+            reply,
+            messages,
+            is_genuine,
+        })
     }
 
     /// How many requests are committed.

@@ -3,7 +3,7 @@
 ghost use Rattle.std.specs.Prelude.{◌≡◌};
 
 use crate::chronicle::Chronicle;
-use mm_base::LAST_POSITION;
+use mm_bytes::LAST_POSITION;
 use mm_call::admit;
 use mm_digest::Variant;
 use mm_model::{Refusal, Verdict};
@@ -12,7 +12,7 @@ use mm_seal::Body;
 
 impl Chronicle {
     ghost use Rattle.std.specs.Prelude.{◌≡◌, ◌≤◌, ℕ, List, false, IfOk};
-    ghost use Rattle.mm_base.specs.Limits.{last_position};
+    ghost use Rattle.mm_bytes.specs.Limits.{last_position};
     ghost use Rattle.mm_digest.specs.declared.variant.Variant.TheVariants.{Basic, Opt};
     ghost use Rattle.mm_module.specs.Batches.{batch_of};
     ghost use Rattle.mm_model.specs.History.{items_of_all, total_of};

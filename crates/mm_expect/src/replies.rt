@@ -8,7 +8,7 @@ ghost use Rattle.mm_expect.specs.Calls.{ending_of};
 ghost use Rattle.mm_expect.specs.Closings.{ending_of_closing};
 
 use crate::calls::ClosingResult;
-use mm_base::Bytes;
+use mm_bytes::Bytes;
 use mm_call::AskResult;
 use mm_model::{BatchAnswer, Refusal};
 use mm_outcome::cause;

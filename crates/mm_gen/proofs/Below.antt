@@ -11,9 +11,9 @@ pub use Rattle.std.proofs.lemmas.List.{length-append, length-take, length-take-l
 pub use Rattle.std.proofs.lemmas.List.Elements.{All-append, All-from_recursion, All-nil, All-take, All-weaker, recursion_from_All}
 pub use Rattle.rand_chacha.specs.ChaCha.{ChaCha, key_of}
 pub use Rattle.sha2.specs.Sha256.{sha256}
-pub use Rattle.mm_lines.specs.Input.{IsUnbroken, joined_lines, lines_of, tail_of}
-pub use Rattle.mm_lines.specs.InputLaws.{joined-append, lines_of-joined, tail_of-joined}
-pub use Rattle.mm_base.specs.Limits.{longest_line, most_events}
+pub use Rattle.mm_base.specs.Input.{IsUnbroken, joined_lines, lines_of, tail_of}
+pub use Rattle.mm_base.specs.InputLaws.{joined-append, lines_of-joined, tail_of-joined}
+pub use Rattle.mm_bytes.specs.Limits.{longest_line, most_events}
 pub use Rattle.mm_digest.specs.declared.variant.Variant.{Variant}
 pub use Rattle.mm_digest.specs.declared.variant.Variant.TheVariants.{Basic, Opt}
 pub use Rattle.mm_modules.specs.Modules.{any_is_found, any_is_listed, name_of}

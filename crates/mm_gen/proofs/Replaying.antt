@@ -7,7 +7,7 @@ use Rattle.mm_gen.proofs.Below.{stage_among_events, header_stage, running_replay
 use Rattle.mm_gen.proofs.Below.{schedule_answer, schedule_closing, text_of_replies, IsLimited, is_over, SumsUp, BulkFault, Memory, TooMuch}
 use Rattle.mm_gen.proofs.Below.{Summary}
 use Rattle.std.proofs.Common.{nat_lt, length-append}
-use Rattle.mm_lines.specs.declared.replay_fault.ReplayFault.TheVariants as fault
+use Rattle.mm_base.specs.declared.replay_fault.ReplayFault.TheVariants as fault
 use Rattle.mm_gen.proofs.Spelled.{is_schedule}
 use Rattle.mm_play.specs.Play.{PlayOutcome, play_outcome, outcome_after_bytes, outcome_of_both, outcome_of_tail, outcome_of_lines}
 use Rattle.mm_gen.specs.Replay.{IsReplayed, replay_of}

@@ -1,7 +1,7 @@
 -- What generated schedules are to those who read them.
 use Rattle.std.specs.Prelude.{◌≡◌, ◌≤◌, ℕ, List, [], ◌∷◌, All, length}
-use Rattle.mm_lines.specs.Input.{IsUnbroken, lines_of, tail_of}
-use Rattle.mm_base.specs.Limits.{longest_line, most_events}
+use Rattle.mm_base.specs.Input.{IsUnbroken, lines_of, tail_of}
+use Rattle.mm_bytes.specs.Limits.{longest_line, most_events}
 use Rattle.mm_schedule.specs.declared.header.Header.{Header}
 use Rattle.mm_schedule.specs.Events.{Event}
 use Rattle.mm_schedule.specs.Headers.{header_text}

@@ -1,7 +1,7 @@
 -- What a replay of the same schedule comes to.
 use Rattle.std.specs.Prelude.{◌≡◌, ℕ, Result, Ok, Err}
 use Rattle.sha2.specs.Sha256.{sha256}
-use Rattle.mm_lines.specs.declared.replay_fault.ReplayFault.TheVariants as fault
+use Rattle.mm_base.specs.declared.replay_fault.ReplayFault.TheVariants as fault
 use Rattle.mm_schedule.specs.declared.header.Header.{Header}
 use Rattle.mm_gen.specs.Schedules.{schedule_text}
 use Rattle.mm_play.specs.Play.{PlayOutcome, outcome_of_input}

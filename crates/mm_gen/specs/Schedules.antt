@@ -2,7 +2,7 @@
 use Rattle.std.specs.Prelude.{ℕ, zero, suc, ◌+◌, List, [], ◌∷◌, ◌++◌, length, replicate, take}
 use Rattle.std.specs.Int.{w64, to_le_bytes}
 use Rattle.rand_chacha.specs.ChaCha.{key_of, word_at}
-use Rattle.mm_lines.specs.Input.{joined_lines}
+use Rattle.mm_base.specs.Input.{joined_lines}
 use Rattle.mm_schedule.specs.declared.header.Header.{Header}
 use Rattle.mm_schedule.specs.Headers.{header_text}
 use Rattle.mm_gen.specs.declared.words.TurnWords.{TurnWords}

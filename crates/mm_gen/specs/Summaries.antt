@@ -2,7 +2,7 @@
 use Rattle.std.specs.Prelude.{ℕ, List, [], ◌∷◌, ◌++◌, codes}
 use Rattle.std.specs.Fmt.{decimal}
 use Rattle.hex.specs.Hex.{encode_lower}
-use Rattle.mm_lines.specs.Input.{joined_lines}
+use Rattle.mm_base.specs.Input.{joined_lines}
 use Rattle.mm_gen.specs.declared.counts.ReplyCounts.{ReplyCounts}
 use Rattle.mm_gen.specs.declared.summary.Summary.{Summary}
 

@@ -1,7 +1,7 @@
 //! Replies counted by their kinds.
 
 ghost use Rattle.std.specs.Prelude.{◌≡◌, ◌+◌, ◌<◌};
-ghost use Rattle.mm_base.specs.Limits.{most_events};
+ghost use Rattle.mm_bytes.specs.Limits.{most_events};
 ghost use Rattle.mm_gen.specs.Sums.{counts_after_reply, no_counts, total};
 
 use mm_schedule::Reply;

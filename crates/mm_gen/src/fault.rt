@@ -3,7 +3,7 @@
 ghost use Rattle.std.specs.Prelude.{◌≡◌};
 ghost use Rattle.mm_gen.specs.declared.fault.BulkFault.TheVariants.{Memory as memory};
 
-use mm_base::Memory;
+use mm_bytes::Memory;
 use thiserror::Error;
 
 /// Why a schedule was not run to its end.

@@ -5,7 +5,7 @@ ghost use Rattle.std.specs.Fmt.{decimal};
 ghost use Rattle.mm_gen.specs.Lines.{line_text, snapshot_text, stop_text};
 ghost use Rattle.mm_gen.specs.TurnLines.{chosen_request};
 
-use mm_base::{Bytes, Memory, put_decimal, put_numbered};
+use mm_bytes::{Bytes, Memory, put_decimal, put_numbered};
 use mm_listing::Listed;
 use mm_modules::AnyModule;
 use mm_platform::Stop;

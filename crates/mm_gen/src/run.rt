@@ -2,8 +2,8 @@
 
 ghost use Rattle.std.specs.Prelude.{◌≡◌, ◌<◌, ◌≤◌, ◌++◌, ℕ, List, [], All, length, true, is_some, Some, Err, IfOk, OnOk};
 ghost use Rattle.sha2.specs.Sha256.{sha256};
-ghost use Rattle.mm_base.specs.Limits.{longest_line, most_events};
-ghost use Rattle.mm_lines.specs.Input.{joined_lines, lines_of};
+ghost use Rattle.mm_bytes.specs.Limits.{longest_line, most_events};
+ghost use Rattle.mm_base.specs.Input.{joined_lines, lines_of};
 ghost use Rattle.mm_schedule.specs.Grammar.{event_at};
 ghost use Rattle.mm_schedule.specs.Replies.{IsPrintable};
 ghost use Rattle.mm_gen.specs.Schedules.{schedule_lines};
@@ -21,7 +21,7 @@ use crate::counts::ReplyCounts;
 use crate::fault::BulkFault;
 use crate::schedule::gen_;
 use crate::summary::Summary;
-use mm_base::{Bytes, Memory};
+use mm_bytes::{Bytes, Memory};
 use mm_digest::Digest;
 use mm_play::{LineRefusal, ReplyFault};
 use mm_replay::{ReplayProgress, put_reply};

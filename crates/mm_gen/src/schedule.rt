@@ -1,12 +1,12 @@
 //! A whole schedule.
 
 ghost use Rattle.std.specs.Prelude.{◌≡◌, ◌≤◌, IfOk};
-ghost use Rattle.mm_base.specs.Limits.{most_events};
+ghost use Rattle.mm_bytes.specs.Limits.{most_events};
 ghost use Rattle.mm_gen.specs.Schedules.{schedule_text, seed_from};
 
 use crate::turn::put_turn;
 use crate::words::draw;
-use mm_base::{Bytes, Memory};
+use mm_bytes::{Bytes, Memory};
 use mm_schedule::{Header, put_header};
 use rand_chacha::ChaCha20Rng;
 use rand_core::SeedableRng;

@@ -4,7 +4,7 @@ ghost use Rattle.std.specs.Prelude.{◌≡◌, [], ◌∷◌, ◌++◌, IfOk, On
 ghost use Rattle.mm_gen.specs.Summaries.{bulk_text, events_text, other_counts, replies_text, told_counts};
 
 use crate::counts::ReplyCounts;
-use mm_base::{Bytes, Memory, put_numbered};
+use mm_bytes::{Bytes, Memory, put_numbered};
 use mm_digest::Digest;
 use mm_schedule::put_end;
 use std::alloc::Global;

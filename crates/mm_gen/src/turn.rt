@@ -2,7 +2,7 @@
 
 ghost use Rattle.std.specs.Prelude.{◌≡◌, ◌<◌, ℕ, List, [], ◌∷◌, ◌++◌, length, take, OnOk, IfOk};
 ghost use Rattle.std.specs.Fmt.{decimal};
-ghost use Rattle.mm_lines.specs.Input.{joined_lines};
+ghost use Rattle.mm_base.specs.Input.{joined_lines};
 ghost use Rattle.mm_platform.specs.declared.plan.Stop.TheVariants.{Quiet};
 ghost use Rattle.mm_gen.specs.Lines.{lines_of_turn, stop_text};
 ghost use Rattle.mm_gen.specs.TurnLines.{cut_word, chosen_request, row_14, row_15, turn_lines};
@@ -12,7 +12,7 @@ ghost use Rattle.mm_gen.specs.declared.turn.TurnLines.TheVariants.{Pair};
 
 use crate::line::{Line, SnapshotChoice, put_line};
 use crate::words::TurnWords;
-use mm_base::{Bytes, Memory};
+use mm_bytes::{Bytes, Memory};
 use mm_digest::Variant;
 use mm_platform::Stop;
 use mm_schedule::Header;

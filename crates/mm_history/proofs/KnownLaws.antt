@@ -5,7 +5,9 @@ use Rattle.mm_history.proofs.Below.{option_map, Decides-eqb, take-map, length-ma
 use Rattle.mm_history.proofs.Below.{Variant, Basic, Opt, zero_bytes, register_of, own_values, History, KeptBatch, kept_batch, kept_batches}
 use Rattle.mm_history.proofs.Below.{first_with, total-cons, nat_le, reads_zero, requests_of, state_after}
 use Rattle.std.specs.List.{AllByRecursion, slice_get}
-use Rattle.std.specs.Prelude.{nat_lt}
+use Rattle.std.specs.Prelude.{nat_lt, IfSome, Vec}
+use Rattle.std.specs.Option.{SomeIff}
+use Rattle.mm_history.proofs.Below.{anchor_at, kept_entries, kept_segments, KeptEntry, Option}
 use Rattle.std.proofs.lemmas.Bool.{ne_eqb}
 use Rattle.std.proofs.lemmas.Slice.Eq.{bytes_eq-Decides}
 use Rattle.std.proofs.Math.Seq.{take-append_seam, drop-length}
@@ -28,22 +30,10 @@ use Rattle.std.proofs.lemmas.List.{nil_from_length}
 use Rattle.mm_model.specs.BatchLaws.{total-push}
 use Rattle.mm_model.specs.SegmentLaws.{same_halves}
 use Rattle.mm_history.proofs.TakenLaws.{anchor_more, not_or}
-use Rattle.mm_history.specs.Waymarks.{IsStage, stage_at}
+use Rattle.mm_history.specs.Waymarks.{BeginsBefore, IsStage, stage_at}
 use Rattle.mm_history.specs.declared.waymarks.SegmentStart.{SegmentStart}
 use Rattle.mm_history.specs.WaymarkLaws.{each_found}
 use Rattle.mm_history.specs.declared.waymarks.Waymark.{Waymark}
-
--- the first bytes of a state decide whether it is one that is shorter
-pub short_decides : (n : ℕ) (x s : List ℕ) → length x < n → bytes_eq x (take n s) ≡ bytes_eq x s
-short_decides n x s lt = same_tests (bytes_eq x (take n s)) (bytes_eq x s)
-    (λ t.
-    let same : x ≡ take n s = (bytes_eq-Decides x (take n s)).0 t in
-    let fits : length s ≤ n = omega (arith, lt, ap length same, length-take n s) in
-    (bytes_eq-Decides x s).1 (same ∙ take_all n s fits))
-    (λ t.
-    let same : x ≡ s = (bytes_eq-Decides x s).0 t in
-    let fits : length s ≤ n = omega (arith, lt, ap length same) in
-    (bytes_eq-Decides x (take n s)).1 (same ∙ sym (take_all n s fits)))
 
 -- behind no batch left out the register is zero
 pub none_known : (barrier : List ℕ) (named : List KeptBatch) → zero_bytes
@@ -145,20 +135,74 @@ stage_found id barrier before later items stages n stage found counts are =
     let same = (same_halves (before ++ items ∷ []) s.before later s.later size (append_assoc before (items ∷ []) later ∙ s.split)).0 in
     s.is ∙ ap (stage_at id barrier) (sym same)
 
-pub stage_made : (id : ℕ) (barrier : List ℕ) (before : List (List RegisterEntry)) (es : List RegisterEntry) {count : ℕ}
+pub stage_made : (id : ℕ) (barrier : List ℕ) (before : List (List RegisterEntry)) (es : List RegisterEntry) {count entries : ℕ}
     {here : SegmentStart} {anchor : Digest}
     {register : List ℕ} {marred clean : Bool} → here ≡ stage_at id barrier before → count ≡ length before + 1
+    → entries ≡ length (items_of_all (before ++ es ∷ []))
     → register ≡ register_of (values_of barrier es) → anchor.bytes ≡ anchored_digest_of here.anchor.bytes register → marred ≡ has_value es
     → clean ≡ (here.is_clean && not marred)
-    → ◌≡◌ {A = SegmentStart} (record { count = count; anchor = anchor; is_clean = clean }) (stage_at id barrier (before ++ es ∷ []))
-stage_made id barrier before es {here = here} is counts reads n v t =
+    → ◌≡◌ {A = SegmentStart} (record { count = count; entries = entries; anchor = anchor; is_clean = clean })
+    (stage_at id barrier (before ++ es ∷ []))
+stage_made id barrier before es {here = here} is counts all reads n v t =
     let joins : items_of_all (before ++ es ∷ []) ≡ items_of_all before ++ es = joined-push before es in
     let size : _ ≡ length (before ++ es ∷ []) = counts ∙ sym (length-append before (es ∷ [])) in
     let there = n ∙ (λ j. anchored_digest_of (is j).anchor.bytes (reads j)) ∙ sym (anchor_more id barrier before es) in
     let cleans = t ∙ (λ j. (is j).is_clean && not (v j))
     ∙ sym (ap (λ (xs : List RegisterEntry). not (has_value xs)) joins ∙ ap not (has_value-append (items_of_all before) es)
     ∙ not_or (has_value (items_of_all before)) (has_value es)) in
-    λ j. record { count = size j; anchor = digest_of (there j); is_clean = cleans j }
+    λ j. record { count = size j; entries = all j; anchor = digest_of (there j); is_clean = cleans j }
+
+-- how many entries there are with one more segment
+pub entries_more : (id : ℕ) (barrier : List ℕ) (before : List (List RegisterEntry)) (last : List RegisterEntry) (stages : List SegmentStart)
+    (n : ℕ) (stage : SegmentStart) {all : ℕ} → slice_get stages n ≡ Some stage → stage.count ≡ length before
+    → AllByRecursion (IsStage id barrier (before ++ last ∷ [])) stages → all ≡ stage.entries + length last
+    → all ≡ length (items_of_all (before ++ last ∷ []))
+entries_more id barrier before last stages n stage found counts are sum =
+    let s = each_found (IsStage id barrier (before ++ last ∷ [])) stages n stage are found in
+    let size : length before ≡ length s.before = omega (arith, counts, ap (λ (x : SegmentStart). x.count) s.is) in
+    let same = (same_halves before s.before (last ∷ []) s.later size s.split).0 in
+    let entries : stage.entries ≡ length (items_of_all before) =
+    ap (λ (x : SegmentStart). x.entries) s.is ∙ ap (λ (ss : List (List RegisterEntry)). length (items_of_all ss)) (sym same) in
+    omega (arith, sum, entries, ap length (joined-push before last), length-append (items_of_all before) last)
+
+-- the place where the next segment begins
+pub kept_stage : {A : Type 0} (i : Instance) (y : History) (m : HistoryMarks) (cs : List (Vec KeptEntry A)) {entries : ℕ} → i.variant ≡ Opt
+    → m ≡ marks_of i y → kept_segments cs ≡ y.closed → entries ≡ length (items_of_all (kept_segments cs))
+    → IsStage i.meaning.id i.barrier y.closed
+    (record { count = length cs; entries = entries; anchor = m.cell; is_clean = not m.is_marred })
+kept_stage {A} i y m cs opt marks all counts =
+    let size : length cs ≡ length y.closed = sym (length-map cs (λ (v : Vec KeptEntry A). kept_entries v.items)) ∙ ap length all in
+    let entries_are = counts ∙ ap (λ (s : List (List RegisterEntry)). length (items_of_all s)) all in
+    let cell : m.cell ≡ digest_of (anchor_at i.meaning.id i.barrier y.closed) =
+    ap (λ (n : HistoryMarks). n.cell) marks ∙ ap (λ (v : Variant). digest_of (cell_digest_of i v y)) opt in
+    let marred : m.is_marred ≡ has_value (items_of_all y.closed) = ap (λ (n : HistoryMarks). n.is_marred) marks in
+    record {
+      before = y.closed;
+      later = [];
+      split = sym (append-nil y.closed);
+      is = λ j. record { count = size j; entries = entries_are j; anchor = cell j; is_clean = not (marred j) };
+    }
+
+pub sum_then : (P : Type 0) (r : Option ℕ) {v n : ℕ} → SomeIff r P v → v ≡ n → IfSome r (λ x. x ≡ n)
+sum_then P None r e = tt
+sum_then P (Some x) r e = r.1 ∙ e
+
+-- the first stage of all
+pub begins_first : (id : ℕ) (barrier : List ℕ) (closed : List (List RegisterEntry)) (size : ℕ) (stage : SegmentStart)
+    → stage ≡ stage_at id barrier [] → BeginsBefore id barrier closed size stage
+begins_first id barrier closed size stage is =
+    let none : stage.count ≡ 0 = ap (λ (x : SegmentStart). x.count) is in
+    record { is = is ∙ ap (λ (n : ℕ). stage_at id barrier (take n closed)) (sym none); early = inl none }
+
+-- a kept stage with fewer entries before it
+pub begins_at : (id : ℕ) (barrier : List ℕ) (closed : List (List RegisterEntry)) (size : ℕ) (stages : List SegmentStart) (n : ℕ)
+    (stage : SegmentStart) → slice_get stages n ≡ Some stage → AllByRecursion (IsStage id barrier closed) stages
+    → stage.count < length closed → stage.entries < size → BeginsBefore id barrier closed size stage
+begins_at id barrier closed size stages n stage found are more less =
+    let s = each_found (IsStage id barrier closed) stages n stage are found in
+    let front : take stage.count closed ≡ s.before =
+    (λ j. take ((ap (λ (x : SegmentStart). x.count) s.is) j) (s.split j)) ∙ take-append_seam s.before s.later in
+    record { is = s.is ∙ ap (stage_at id barrier) (sym front); early = inr (more, less) }
 
 -- none ends between two that are a batch apart
 inside_next : (f r g s : List Batch) (position : ℕ) → f ++ r ≡ g ++ s → length g ≡ length f + 1 → total_of f < position

@@ -1,7 +1,7 @@
 -- Messages that are listed one behind another.
 use Rattle.mm_history.proofs.Below.{◌≡◌, ℕ, List, ◌++◌, ap, ◌∙◌, append_assoc}
 use Rattle.std.proofs.Common.{OnOk, Result, Ok, Err}
-use Rattle.mm_base.specs.declared.fault.Memory.{Memory}
+use Rattle.mm_bytes.specs.declared.fault.Memory.{Memory}
 
 -- those behind others, where the last call's result is handed on
 pub listed_behind : (result : Result (Unit {0}) Memory) (old between new first more whole : List (List ℕ)) → between ≡ old ++ first

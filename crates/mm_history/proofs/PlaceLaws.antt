@@ -9,8 +9,9 @@ use Rattle.mm_history.proofs.Below.{anchor_at, is_at, is_behind, is_here, is_ins
 use Rattle.mm_history.proofs.Below.{instance_by, IsDecided, and_true, zero_bytes, nat_lt}
 use Rattle.std.specs.Prelude.{◌&&◌}
 use Rattle.mm_history.proofs.NameLaws.{named_by}
-use Rattle.mm_history.proofs.FirstLaws.{same-Decides}
-use Rattle.mm_history.specs.Waymarks.{EndsWithCurrent, IsStage, stage_at}
+use Rattle.mm_history.proofs.FirstLaws.{le-Decides, same-Decides}
+use Rattle.mm_history.specs.Waymarks.{BeginsBefore, EndsWithCurrent, IsStage, stage_at}
+use Rattle.mm_history.proofs.Below.{◌||◌, append-nil, append_assoc, inl, inr, is_within, nat_le}
 use Rattle.mm_history.specs.declared.waymarks.SegmentStart.{SegmentStart}
 use Rattle.std.specs.List.{AllByRecursion}
 use Rattle.std.proofs.Math.Seq.{drop-append_seam}
@@ -47,18 +48,43 @@ inside_by barrier last y named a e bs cs {start} all current at ends is =
     ∙ ap (λ (b : Bool). b && behind)
     (sym ((same-Decides (drop (length y.batches - length y.current) y.batches) y.current).1 (last_are y ends)))
 
+not_none : (xs : List (List RegisterEntry)) → 0 < length xs → is_empty xs ≡ false
+not_none [] some = absurd (omega (arith, some))
+not_none (x ∷ xs) some = refl
+
+not_le : (n m : ℕ) → m < n → nat_le n m ≡ false
+not_le n m lt = elim (nat_le n m) as (λ t. nat_le n m ≡ t → t ≡ false) [
+  | true ↦ λ t. let fits = (le-Decides n m).0 t in absurd (omega (arith, fits, lt))
+  | false ↦ λ t. refl
+] refl
+
 is_empty_by : (xs : List (List RegisterEntry)) (n : ℕ) → n ≡ length xs → (n == 0) ≡ is_empty xs
 is_empty_by [] n same = (Decides-eqb n 0).1 same
 is_empty_by (x ∷ xs) n same = ne_eqb n 0 (λ z. absurd (omega (arith, same, z)))
 
+-- a stage from which a walk may begin is behind some first segments, of no more entries than there are named batches
+pub begins_within : (id : ℕ) (barrier : List ℕ) (closed : List (List RegisterEntry)) (size : ℕ) (stage : SegmentStart)
+    → BeginsBefore id barrier closed size stage → stage.count ≤ length closed
+begins_within id barrier closed size stage b = elim b.early [ inl none ↦ omega (arith, none) | inr more ↦ omega (arith, more.0) ]
+
+pub begins_fits : (id : ℕ) (barrier : List ℕ) (closed : List (List RegisterEntry)) (size : ℕ) (stage : SegmentStart)
+    → BeginsBefore id barrier closed size stage → stage.entries ≤ size
+begins_fits id barrier closed size stage b = elim b.early [
+  | inl none ↦
+      let is : stage.entries ≡ 0 = ap (λ (s : SegmentStart). s.entries) b.is
+      ∙ ap (λ (n : ℕ). length (items_of_all (take n closed))) none in
+      omega (arith, is)
+  | inr more ↦ omega (arith, more.1)
+]
+
 -- How far the walk over the closed segments has come.
 module _ (id : ℕ) (barrier : List ℕ) (y : History) (named : List Batch) (a e : List ℕ) where
-  pub record Reached (before rest all : List (List RegisterEntry)) (here : SegmentStart) (entries later : ℕ) : Type 0 where
+  pub record Reached (front all before rest : List (List RegisterEntry)) (here : SegmentStart) (entries later : ℕ) : Type 0 where
     pub here_is : here ≡ stage_at id barrier before
     pub entries_is : entries ≡ length (items_of_all before)
     pub fits : entries ≤ length named
     pub left : later ≡ length rest
-    pub same : some_place id barrier y named a e before rest ≡ some_place id barrier y named a e [] all
+    pub same : some_place id barrier y named a e before rest ≡ some_place id barrier y named a e front all
 
   not_at : (here : List ℕ) (start : ℕ) (t : Bool) → length named < start → is_at t here start named a e ≡ false
   not_at here start t lt = and_left (t && (length named == start)) (bytes_eq a here && bytes_eq e zero_bytes)
@@ -79,32 +105,107 @@ module _ (id : ℕ) (barrier : List ℕ) (y : History) (named : List Batch) (a e
       ) (past (before ++ segment ∷ []) rest
       (omega (arith, lt, ap length (joined-push before segment), length-append (items_of_all before) segment)))
 
+  entries_grow : (before mid : List (List RegisterEntry)) → length (items_of_all before) ≤ length (items_of_all (before ++ mid))
+  entries_grow before [] = omega (arith, ap (λ (s : List (List RegisterEntry)). length (items_of_all s)) (append-nil before))
+  entries_grow before (segment ∷ mid) =
+      omega (
+        arith,
+        entries_grow (before ++ segment ∷ []) mid,
+        ap length (joined-push before segment),
+        length-append (items_of_all before) segment,
+        ap (λ (s : List (List RegisterEntry)). length (items_of_all s)) (append_assoc before (segment ∷ []) mid),
+      )
+
+  more_left : (mid rest : List (List RegisterEntry)) → is_empty rest ≡ false → is_empty (mid ++ rest) ≡ false
+  more_left [] rest some = some
+  more_left (segment ∷ mid) rest some = refl
+
+  -- segments behind which fewer entries are than there are named batches don't have the place
+  pub skipped : (before mid rest : List (List RegisterEntry)) → length (items_of_all (before ++ mid)) < length named → is_empty rest ≡ false
+      → some_place id barrier y named a e (before ++ mid) rest ≡ some_place id barrier y named a e before (mid ++ rest)
+  skipped before [] rest lt some = ap (λ (s : List (List RegisterEntry)). some_place id barrier y named a e s rest) (append-nil before)
+  skipped before (segment ∷ mid) rest lt some =
+      let start = length (items_of_all before) in
+      let here = anchor_at id barrier before in
+      let clean = not (has_value (items_of_all before)) in
+      let joins = append_assoc before (segment ∷ []) mid in
+      let more : length (items_of_all (before ++ segment ∷ [])) ≡ start + length segment =
+      ap length (joined-push before segment) ∙ length-append (items_of_all before) segment in
+      let less : length (items_of_all ((before ++ segment ∷ []) ++ mid)) < length named =
+      subst (λ (s : List (List RegisterEntry)). length (items_of_all s) < length named) (sym joins) lt in
+      let over : start + length segment < length named = omega (arith, less, more, entries_grow (before ++ segment ∷ []) mid) in
+      let at : is_at clean here start named a e ≡ false =
+      and_left (clean && (length named == start)) (bytes_eq a here && bytes_eq e zero_bytes)
+      (and_right clean (length named == start) (ne_eqb (length named) start (λ s. absurd (omega (arith, over, s))))) in
+      let size : nat_le (length named - start) (length segment) ≡ false =
+      not_le (length named - start) (length segment) (omega (arith, over)) in
+      let within : is_within start named (length segment) (is_empty (mid ++ rest) && is_empty y.current) ≡ false =
+      rw (size, more_left mid rest some) refl in
+      let none : is_here clean barrier here start named (length segment) (is_empty (mid ++ rest) && is_empty y.current) a e ≡ false =
+      rw (at, within) (and_right (is_behind barrier here start named a e) false refl) in
+      ap (λ (s : List (List RegisterEntry)). some_place id barrier y named a e s rest) (sym joins)
+      ∙ skipped (before ++ segment ∷ []) mid rest less some
+      ∙ sym (ap (λ (t : Bool). t || some_place id barrier y named a e (before ++ segment ∷ []) (mid ++ rest)) none)
+
+  -- so a walk may begin at a stage before the place
+  pub begins_same : (size : ℕ) (stage : SegmentStart) → size ≡ length named → BeginsBefore id barrier y.closed size stage
+      → some_place id barrier y named a e (take stage.count y.closed) (drop stage.count y.closed) ≡ some_place id barrier y named a e []
+      y.closed
+  begins_same size stage sized b = elim b.early [
+    | inl none ↦ λ j. some_place id barrier y named a e (take (none j) y.closed) (drop (none j) y.closed)
+    | inr more ↦
+        let front = take stage.count y.closed in
+        let back = drop stage.count y.closed in
+        let few : length (items_of_all front) < length named =
+        omega (arith, more.1, sized, ap (λ (s : SegmentStart). s.entries) b.is) in
+        let some : is_empty back ≡ false = not_none back (omega (arith, more.0, length-drop stage.count y.closed)) in
+        skipped [] front back few some ∙ ap (some_place id barrier y named a e []) (take-append-drop stage.count y.closed)
+  ]
+
 -- The walk, over owned segments and batches.
 module _ (id : ℕ) (barrier : List ℕ) (y : History) (named : List KeptBatch) (a e : List ℕ) where
-  abbrev pub Walked : {A : Type 0} → List (Vec KeptEntry A) → ℕ → (here : SegmentStart) (entries later : ℕ) → Type 0
-  Walked closed k here entries later =
-      Reached id barrier y (kept_batches named) a e (kept_segments (take k closed)) (kept_segments (drop k closed)) (kept_segments closed)
+  abbrev pub Walked : {A : Type 0} → (front : List (List RegisterEntry)) → List (Vec KeptEntry A) → ℕ → (here : SegmentStart)
+      (entries later : ℕ) → Type 0
+  Walked front closed k here entries later =
+      Reached id barrier y (kept_batches named) a e front (kept_segments closed) (front ++ kept_segments (take k closed))
+      (kept_segments (drop k closed))
       here entries later
 
-  pub walk_begins : {A : Type 0} (closed : List (Vec KeptEntry A)) (here : SegmentStart) → here ≡ stage_at id barrier []
-      → Reached id barrier y (kept_batches named) a e [] (kept_segments closed) (kept_segments closed) here 0 (length closed)
-  walk_begins {A} closed here is = record {
-    here_is = is;
-    entries_is = refl;
-    fits = omega arith;
-    left = sym (length-map closed (λ (v : Vec KeptEntry A). kept_entries v.items));
-    same = refl;
-  }
+  pub walk_begins : {A : Type 0} (front : List (List RegisterEntry)) (closed : List (Vec KeptEntry A)) (here : SegmentStart)
+      → here ≡ stage_at id barrier front
+      → here.entries ≤ length named
+      → Reached id barrier y (kept_batches named) a e front (kept_segments closed) (front ++ []) (kept_segments closed) here here.entries
+      (length closed)
+  walk_begins {A} front closed here is fits =
+      subst (λ (s : List (List RegisterEntry)). Reached id barrier y (kept_batches named) a e front (kept_segments closed) s
+      (kept_segments closed) here here.entries (length closed)) (sym (append-nil front)) (record {
+        here_is = is;
+        entries_is = ap (λ (s : SegmentStart). s.entries) is;
+        fits = omega (arith, fits, length-map named kept_batch);
+        left = sym (length-map closed (λ (v : Vec KeptEntry A). kept_entries v.items));
+        same = refl;
+      })
+
+pub segments_are : {A : Type 0} (closed : List (Vec KeptEntry A)) {all : List (List RegisterEntry)} → kept_segments closed ≡ all
+    → length closed ≡ length all
+segments_are {A} closed is = sym (length-map closed (λ (v : Vec KeptEntry A). kept_entries v.items)) ∙ ap length is
+
+pub segments_on : {A : Type 0} (closed : List (Vec KeptEntry A)) (n : ℕ) {all : List (List RegisterEntry)} {rest : List (Vec KeptEntry A)}
+    → kept_segments closed ≡ all → rest ≡ drop n closed → kept_segments rest ≡ drop n all
+segments_on {A} closed n is on = ap (λ (s : List (Vec KeptEntry A)). kept_segments s) on
+    ∙ sym (drop-map (λ (v : Vec KeptEntry A). kept_entries v.items) n closed) ∙ ap (drop n) is
 
 -- at a segment: the place is there, or the walk goes on
 module _ {A : Type 0} {id : ℕ} {barrier : List ℕ} {y : History} {a e : List ℕ} {here : SegmentStart} {entries later size : ℕ}
-    {shut ends tested : Bool} (named : List KeptBatch) (closed : List (Vec KeptEntry A)) (k : ℕ) (segment : Vec KeptEntry A)
+    {shut ends tested : Bool} (named : List KeptBatch) (front whole : List (List RegisterEntry)) (closed : List (Vec KeptEntry A)) (k : ℕ)
+    (segment : Vec KeptEntry A)
     (l : k < length closed) (is : segment ≡ get_or closed k segment)
-    (w : Walked id barrier y named a e closed k here entries later) (sized : size ≡ length segment.items)
+    (w : Walked id barrier y named a e front closed k here entries later) (sized : size ≡ length segment.items)
     (clear : shut ≡ is_empty y.current) (ended : ends ≡ ((later - 1 == 0) && shut))
-    (test : tested ≡ is_here here.is_clean barrier here.anchor.bytes entries (kept_batches named) size ends a e) where
+    (test : tested ≡ is_here here.is_clean barrier here.anchor.bytes entries (kept_batches named) size ends a e)
+    (all : kept_segments closed ≡ whole) where
   abbrev before : List (List RegisterEntry)
-  before = kept_segments (take k closed)
+  before = front ++ kept_segments (take k closed)
 
   abbrev rest : List (List RegisterEntry)
   rest = kept_segments (drop (k + 1) closed)
@@ -112,8 +213,9 @@ module _ {A : Type 0} {id : ℕ} {barrier : List ℕ} {y : History} {a e : List 
   abbrev items : List RegisterEntry
   items = kept_entries segment.items
 
-  cut : Reached id barrier y (kept_batches named) a e before (items ∷ rest) (kept_segments closed) here entries later
-  cut = subst (λ (s : List (List RegisterEntry)). Reached id barrier y (kept_batches named) a e before s (kept_segments closed) here entries
+  cut : Reached id barrier y (kept_batches named) a e front (kept_segments closed) before (items ∷ rest) here entries later
+  cut = subst (λ (s : List (List RegisterEntry)). Reached id barrier y (kept_batches named) a e front (kept_segments closed) before s here
+      entries
       later) (segments_left closed k segment l is) w
 
   sizes : size ≡ length items
@@ -129,59 +231,69 @@ module _ {A : Type 0} {id : ℕ} {barrier : List ℕ} {y : History} {a e : List 
       test ∙ (λ j. is_here (x.here_is j).is_clean barrier (x.here_is j).anchor.bytes (x.entries_is j) (kept_batches named)
       (sizes j) (last j) a e)
 
-  pub walk_here : tested ≡ true → kept_segments closed ≡ y.closed → true ≡ some_place id barrier y (kept_batches named) a e [] y.closed
-  walk_here found all =
+  pub walk_here : tested ≡ true → true ≡ some_place id barrier y (kept_batches named) a e front whole
+  walk_here found =
       let x = cut in
-      let is_some : true ≡ some_place id barrier y (kept_batches named) a e [] (kept_segments closed) =
+      let is_some : true ≡ some_place id barrier y (kept_batches named) a e front (kept_segments closed) =
       rw (sym here_by ∙ found) at x.same in
-      is_some ∙ ap (some_place id barrier y (kept_batches named) a e []) all
+      is_some ∙ ap (some_place id barrier y (kept_batches named) a e front) all
 
   on_then : tested ≡ false → some_place id barrier y (kept_batches named) a e (before ++ items ∷ []) rest
-      ≡ some_place id barrier y (kept_batches named) a e [] (kept_segments closed)
+      ≡ some_place id barrier y (kept_batches named) a e front (kept_segments closed)
   on_then not_here = let x = cut in rw (sym here_by ∙ not_here) at x.same
 
-  pub walk_past : {last : List ℕ} {r : Bool} → tested ≡ false → length named - entries < size → kept_segments closed ≡ y.closed
-      → last ≡ anchor_at id barrier (kept_segments closed) → r ≡ is_inside_at barrier last y (kept_batches named) a e
-      → r ≡ some_place id barrier y (kept_batches named) a e [] y.closed
-  walk_past {last} {r} not_here over all reads inside =
+  pub walk_past : {last : List ℕ} {r : Bool} → tested ≡ false → length named - entries < size
+      → last ≡ anchor_at id barrier y.closed → r ≡ is_inside_at barrier last y (kept_batches named) a e
+      → r ≡ some_place id barrier y (kept_batches named) a e front whole
+  walk_past {last} {r} not_here over reads inside =
       let x = cut in
       let more : length (items_of_all (before ++ items ∷ [])) ≡ length (items_of_all before) + length items =
       ap length (joined-push before items) ∙ length-append (items_of_all before) items in
-      inside ∙ ap (λ (l : List ℕ). is_inside_at barrier l y (kept_batches named) a e) (reads ∙ ap (anchor_at id barrier) all)
+      inside ∙ ap (λ (l : List ℕ). is_inside_at barrier l y (kept_batches named) a e) reads
       ∙ past id barrier y (kept_batches named) a e (before ++ items ∷ []) rest
       (omega (arith, over, sizes, x.entries_is, x.fits, more, length-map named kept_batch)) ∙ on_then not_here
-      ∙ ap (some_place id barrier y (kept_batches named) a e []) all
+      ∙ ap (some_place id barrier y (kept_batches named) a e front) all
 
   -- the segments, cut here
-  parted : kept_segments closed ≡ before ++ items ∷ rest
+  parted : front ++ kept_segments closed ≡ before ++ items ∷ rest
   parted =
       let f : Vec KeptEntry A → List RegisterEntry = λ v. kept_entries v.items in
-      ap (map f) (sym (take-append-drop k closed)) ∙ map-append f (take k closed) (drop k closed)
-      ∙ ap (λ (s : List (List RegisterEntry)). before ++ s) (segments_left closed k segment l is)
+      ap (λ (s : List (List RegisterEntry)). front ++ s)
+      (ap (map f) (sym (take-append-drop k closed)) ∙ map-append f (take k closed) (drop k closed)
+      ∙ ap (λ (s : List (List RegisterEntry)). kept_segments (take k closed) ++ s) (segments_left closed k segment l is))
+      ∙ sym (append_assoc front (kept_segments (take k closed)) (items ∷ rest))
 
-  pub walk_on : tested ≡ false → (stages : List SegmentStart) {lent : List KeptEntry} {next : SegmentStart} {count : ℕ}
+  pub walk_on : tested ≡ false → (stages : List SegmentStart) {lent : List KeptEntry} {next : SegmentStart} {count of : ℕ}
       → size ≤ length named - entries
-      → lent ≡ segment.items → kept_segments closed ≡ y.closed → AllByRecursion (IsStage id barrier y.closed) stages
-      → count ≡ length closed - (later - 1)
+      → lent ≡ segment.items → y.closed ≡ front ++ whole → AllByRecursion (IsStage id barrier y.closed) stages
+      → of ≡ length y.closed
+      → count ≡ of - (later - 1)
       → ((n : ℕ) (front back : List (List RegisterEntry)) → here ≡ stage_at n barrier front → count ≡ length front + 1
+      → entries + size ≡ length (items_of_all (front ++ kept_entries lent ∷ []))
       → AllByRecursion (IsStage n barrier (front ++ kept_entries lent ∷ back)) stages
       → next ≡ stage_at n barrier (front ++ kept_entries lent ∷ []))
-      → Walked id barrier y named a e closed (k + 1) next (entries + size) (later - 1)
-  walk_on not_here stages {lent = lent} {next = next} {count = count} room items_are all are counted behind =
+      → Walked id barrier y named a e front closed (k + 1) next (entries + size) (later - 1)
+  walk_on not_here stages {lent = lent} {next = next} {count = count} room items_are split are whole_size counted behind =
       let x = cut in
       let f : Vec KeptEntry A → List RegisterEntry = λ v. kept_entries v.items in
       let joins : items_of_all (before ++ items ∷ []) ≡ items_of_all before ++ items = joined-push before items in
-      let sizes_all : length closed ≡ length before + suc (length rest) =
-      sym (length-map closed f) ∙ ap length parted ∙ length-append before (items ∷ rest) in
-      let one : count ≡ length before + 1 = omega (arith, counted, sizes_all, x.left) in
-      let whole : y.closed ≡ before ++ kept_entries lent ∷ rest =
-      sym all ∙ parted ∙ ap (λ (es : List KeptEntry). before ++ kept_entries es ∷ rest) (sym items_are) in
-      subst (λ (front : List (List RegisterEntry)). Reached id barrier y (kept_batches named) a e front rest (kept_segments closed) next
-      (entries + size) (later - 1)) (taken f closed k segment l is) (record {
+      let cuts : y.closed ≡ before ++ items ∷ rest = split ∙ ap (λ (s : List (List RegisterEntry)). front ++ s) (sym all) ∙ parted in
+      let sizes_all : length y.closed ≡ length before + suc (length rest) = ap length cuts ∙ length-append before (items ∷ rest) in
+      let one : count ≡ length before + 1 = omega (arith, counted, whole_size, sizes_all, x.left) in
+      let entries_are : entries + size ≡ length (items_of_all (before ++ items ∷ [])) =
+      omega (arith, x.entries_is, sizes, ap length joins, length-append (items_of_all before) items) in
+      let cuts_here : y.closed ≡ before ++ kept_entries lent ∷ rest =
+      cuts ∙ ap (λ (es : List KeptEntry). before ++ kept_entries es ∷ rest) (sym items_are) in
+      subst (λ (done : List (List RegisterEntry)). Reached id barrier y (kept_batches named) a e front (kept_segments closed) done rest next
+      (entries + size) (later - 1))
+      (append_assoc front (kept_segments (take k closed)) (items ∷ [])
+      ∙ ap (λ (s : List (List RegisterEntry)). front ++ s) (taken f closed k segment l is)) (record {
         here_is = behind id before rest x.here_is one
-            (subst (λ (s : List (List RegisterEntry)). AllByRecursion (IsStage id barrier s) stages) whole are)
+            (entries_are
+            ∙ ap (λ (es : List KeptEntry). length (items_of_all (before ++ kept_entries es ∷ []))) (sym items_are))
+            (subst (λ (s : List (List RegisterEntry)). AllByRecursion (IsStage id barrier s) stages) cuts_here are)
             ∙ ap (λ (es : List KeptEntry). stage_at id barrier (before ++ kept_entries es ∷ [])) items_are;
-        entries_is = omega (arith, x.entries_is, sizes, ap length joins, length-append (items_of_all before) items);
+        entries_is = entries_are;
         fits = omega (arith, room, x.fits, length-map named kept_batch);
         left = omega (arith, x.left);
         same = on_then not_here;
@@ -190,22 +302,23 @@ module _ {A : Type 0} {id : ℕ} {barrier : List ℕ} {y : History} {a e : List 
 -- behind all segments the place is at the last anchor
 pub walk_at : {A : Type 0} {id : ℕ} {barrier : List ℕ} {y : History} {a e : List ℕ} {here : SegmentStart} {entries later : ℕ}
     {tested : Bool}
-    (named : List KeptBatch) (closed : List (Vec KeptEntry A)) (k : ℕ) → length closed ≤ k
-    → Walked id barrier y named a e closed k here entries later
-    → tested ≡ is_at here.is_clean here.anchor.bytes entries (kept_batches named) a e → tested ≡ true → kept_segments closed ≡ y.closed
-    → true ≡ some_place id barrier y (kept_batches named) a e [] y.closed
-walk_at {A} {id} {barrier} {y} {a} {e} {here} {entries} {later} named closed k over w test found all =
+    (named : List KeptBatch) (front whole : List (List RegisterEntry)) (closed : List (Vec KeptEntry A)) (k : ℕ) → length closed ≤ k
+    → Walked id barrier y named a e front closed k here entries later
+    → tested ≡ is_at here.is_clean here.anchor.bytes entries (kept_batches named) a e → tested ≡ true → kept_segments closed ≡ whole
+    → true ≡ some_place id barrier y (kept_batches named) a e front whole
+walk_at {A} {id} {barrier} {y} {a} {e} {here} {entries} {later} named front whole closed k over w test found all =
     let none : drop k closed ≡ [] = nil_from_length (drop k closed) (omega (arith, over, length-drop k closed)) in
-    let before = kept_segments (take k closed) in
-    let x : Reached id barrier y (kept_batches named) a e before [] (kept_segments closed) here entries later =
-    subst (λ (s : List (Vec KeptEntry A)). Reached id barrier y (kept_batches named) a e before (kept_segments s) (kept_segments closed)
+    let before = front ++ kept_segments (take k closed) in
+    let x : Reached id barrier y (kept_batches named) a e front (kept_segments closed) before [] here entries later =
+    subst (λ (s : List (Vec KeptEntry A)).
+    Reached id barrier y (kept_batches named) a e front (kept_segments closed) before (kept_segments s)
     here
     entries later) none w in
     let at_is : is_at (not (has_value (items_of_all before))) (anchor_at id barrier before) (length (items_of_all before))
     (kept_batches named) a e ≡ true =
     sym (test ∙ (λ j. is_at (x.here_is j).is_clean (x.here_is j).anchor.bytes (x.entries_is j) (kept_batches named) a e)) ∙ found in
-    let is_some : true ≡ some_place id barrier y (kept_batches named) a e [] (kept_segments closed) = rw at_is at x.same in
-    is_some ∙ ap (some_place id barrier y (kept_batches named) a e []) all
+    let is_some : true ≡ some_place id barrier y (kept_batches named) a e front (kept_segments closed) = rw at_is at x.same in
+    is_some ∙ ap (some_place id barrier y (kept_batches named) a e front) all
 
 -- The whole test, by what was found.
 

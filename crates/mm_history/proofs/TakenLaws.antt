@@ -63,10 +63,6 @@ first_stops batches i count left position same empty so_far = ap (λ (n : ℕ). 
     ∙ ap (option_map (λ (front : List Batch). kept_batches (take i batches) ++ front))
     (sym (ap (λ (n : ℕ). first_with n (kept_batches (drop i batches))) empty ∙ none_left (kept_batches (drop i batches)))) ∙ so_far
 
-pub same_not : (bs cs : List KeptBatch) → length bs ≢ length cs → false ≡ same_batches (kept_batches bs) (kept_batches cs)
-same_not bs cs n = sym (false_from_ne_true _ (λ t.
-    n (sym (length-map bs kept_batch) ∙ ap length ((same-Decides (kept_batches bs) (kept_batches cs)).0 t) ∙ length-map cs kept_batch)))
-
 pub not_or : (s t : Bool) → not (s || t) ≡ (not s && not t)
 not_or true t = refl
 not_or false t = refl

@@ -4,3 +4,4 @@ pub mod Naming
 pub mod Waymarks
 pub mod WaymarkLaws
 pub mod OfferMessages
+pub mod KnownPairs

@@ -1,5 +1,5 @@
 -- What is kept of the positions of a history.
-use Rattle.std.specs.Prelude.{◌≡◌, ◌⊎◌, ℕ, ◌-◌, ◌==◌, Bool, true, ◌&&◌, not, List, ◌++◌, length, drop, take, Some, nat_lt, slice_get}
+use Rattle.std.specs.Prelude.{◌≡◌, ◌⊎◌, ℕ, ◌-◌, ◌<◌, ◌==◌, Bool, true, ◌&&◌, not, List, ◌++◌, length, drop, take, Some, nat_lt, slice_get}
 use Rattle.std.specs.List.{AllByRecursion}
 use Rattle.mm_digest.specs.declared.variant.Variant.{Variant}
 use Rattle.mm_digest.specs.declared.variant.Variant.TheVariants.{Basic, Opt}
@@ -35,6 +35,7 @@ pub record IsWaymark (variant : Variant) (meaning : Meaning) (barrier : List ℕ
 abbrev pub stage_at : ℕ → (barrier : List ℕ) → List (List RegisterEntry) → SegmentStart
 stage_at id barrier before = record {
   count = length before;
+  entries = length (items_of_all before);
   anchor = digest_of (anchor_at id barrier before);
   is_clean = not (has_value (items_of_all before));
 }
@@ -46,6 +47,13 @@ pub record IsStage (id : ℕ) (barrier : List ℕ) (closed : List (List Register
   pub later : List (List RegisterEntry)
   pub split : closed ≡ before ++ later
   pub is : stage ≡ stage_at id barrier before
+
+-- A walk to a place behind so many batches may begin at this stage: it is the first, or another
+-- segment is behind it, and fewer entries are before it.
+pub record BeginsBefore (id : ℕ) (barrier : List ℕ) (closed : List (List RegisterEntry)) (size : ℕ)
+    (stage : SegmentStart) : Type 0 where
+  pub is : stage ≡ stage_at id barrier (take stage.count closed)
+  pub early : (stage.count ≡ 0) ⊎ ((stage.count < length closed) × (stage.entries < size))
 
 -- the batches of the open segment are the last
 pub record EndsWithCurrent (y : History) : Type 0 where

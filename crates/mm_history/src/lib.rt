@@ -3,6 +3,7 @@
 //! Nothing here knows a schedule or a world.
 #![tactic(auto)]
 
+mod known_digests;
 mod lists;
 mod marks;
 mod message;
@@ -10,9 +11,10 @@ mod messages;
 mod naming;
 mod waymarks;
 
+pub use known_digests::KnownDigests;
 pub use lists::HistoryLists;
 pub use marks::HistoryMarks;
 pub use message::Message;
-pub use messages::{anchored_message, joined, list_one, list_place};
+pub use messages::{anchored_message, joined, list_known, list_place};
 pub use naming::{is_named, names_are_decided};
 pub use waymarks::{SegmentStart, Waymark, Waymarks};

@@ -5,7 +5,7 @@ ghost use Rattle.mm_model.specs.History.{entries_with_last_batch};
 ghost use Rattle.mm_model.specs.KeptHistory.{kept_batch, kept_entries};
 
 use crate::marks::register_of;
-use mm_base::Memory;
+use mm_bytes::Memory;
 use mm_digest::Digest;
 use mm_model::{KeptBatch, KeptEntry, copies_of, copy_entries, last_is, reserve_one, some_value};
 use mm_module::Batch;

@@ -7,7 +7,8 @@ ghost use Rattle.mm_model.specs.History.{extension_value};
 ghost use Rattle.mm_model.specs.HistoryWords.{values_of};
 ghost use Rattle.mm_model.specs.KeptHistory.{kept_batches, kept_entry, kept_entries};
 
-use mm_digest::{Digest, Variant, anchored, extended, start, zero};
+use crate::known_digests::KnownDigests;
+use mm_digest::{Digest, Variant, extended, start, zero};
 use mm_model::{KeptBatch, KeptEntry, guard, link};
 use mm_module::Batch;
 
@@ -58,11 +59,11 @@ impl HistoryMarks {
     }
 
     /// After the register took in a value that stands for no batch.
-    pub fn with_value(self, value: &Digest) -> HistoryMarks
+    pub fn with_value(self, known: &mut KnownDigests, value: &Digest) -> HistoryMarks
         ensures { result ≡ with_value self value.now.bytes }
     {
         HistoryMarks {
-            register: extended(&self.register, value),
+            register: known.extended(&self.register, value),
             is_own: false,
             ..self
         }
@@ -80,22 +81,28 @@ impl HistoryMarks {
     }
 
     // The anchor, or the summary, after a segment was closed.
-    fn closed_cell(&self, variant: Variant) -> Digest
+    fn closed_cell(&self, known: &mut KnownDigests, variant: Variant) -> Digest
         ensures { result.bytes ≡ (closed_marks variant self.now true true).cell.bytes }
     {
         match variant {
             Variant::Basic => self.cell,
-            Variant::Opt => anchored(&self.cell, &self.register),
+            Variant::Opt => known.anchored(&self.cell, &self.register),
         }
     }
 
     /// After the open segment was closed, by whether it holds a value that stands for no batch, and
     /// whether it is empty.
-    pub fn closed(self, variant: Variant, has_value: bool, is_bare: bool) -> HistoryMarks
+    pub fn closed(
+        self,
+        known: &mut KnownDigests,
+        variant: Variant,
+        has_value: bool,
+        is_bare: bool,
+    ) -> HistoryMarks
         ensures { result ≡ closed_marks variant self has_value is_bare }
     {
         HistoryMarks {
-            cell: self.closed_cell(variant),
+            cell: self.closed_cell(known, variant),
             own: zero(),
             is_own: is_bare,
             is_marred: self.is_marred || has_value,
@@ -117,14 +124,14 @@ impl HistoryMarks {
     }
 
     /// After one more batch of this size and guard in the open segment.
-    pub fn grown(self, size: u64, guard: &Digest) -> HistoryMarks
+    pub fn grown(self, known: &mut KnownDigests, size: u64, guard: &Digest) -> HistoryMarks
         requires { self.total + size < 2 ^ 64 }
         ensures { result ≡ grown_marks self size guard.now.bytes }
     {
         HistoryMarks {
             total: self.total + size,
-            own: extended(&self.own, guard),
-            register: extended(&self.register, guard),
+            own: known.extended(&self.own, guard),
+            register: known.extended(&self.register, guard),
             ..self
         }
     }

@@ -3,7 +3,7 @@
 ghost use Rattle.std.specs.Prelude.{◌≡◌};
 ghost use Rattle.sha2.specs.Sha256.{sha256};
 
-use mm_base::Bytes;
+use mm_bytes::Bytes;
 use mm_digest::Digest;
 use sha2::{Digest as _, Sha256};
 use std::marker::Model;

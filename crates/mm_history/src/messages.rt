@@ -9,10 +9,10 @@ ghost use Rattle.mm_model.specs.Chains.{link_message, guard_message};
 ghost use Rattle.mm_model.specs.Messages.{form_messages, point_messages};
 ghost use Rattle.mm_history.specs.OfferMessages.{messages_at_place};
 
+use crate::known_digests::KnownDigests;
 use crate::message::Message;
-use mm_base::{Bytes, Memory};
-use mm_digest::{Digest, anchored, extended, zero};
-use mm_model::guard;
+use mm_bytes::{Bytes, Memory};
+use mm_digest::{Digest, zero};
 use mm_module::Batch;
 use mm_seal::Place;
 use std::alloc::Global;
@@ -62,7 +62,11 @@ fn link_message(alloc: Global, summary: &Digest, batch: Batch<'_>) -> Result<Byt
 }
 
 // The message that a batch makes under the barrier.
-fn guard_message(alloc: Global, barrier: &[u8; 32], batch: Batch<'_>) -> Result<Bytes, Memory>
+pub(crate) fn guard_message(
+    alloc: Global,
+    barrier: &[u8; 32],
+    batch: Batch<'_>,
+) -> Result<Bytes, Memory>
     ensures { IfOk result (λ bytes. bytes ≡ guard_message barrier.now (batch_of batch.entry)) }
 {
     match batch {
@@ -71,8 +75,8 @@ fn guard_message(alloc: Global, barrier: &[u8; 32], batch: Batch<'_>) -> Result<
     }
 }
 
-/// Lists a message, if there was memory for it.
-pub fn list_one(message: Result<Bytes, Memory>, messages: &mut Vec<Message>) -> Result<(), Memory>
+// Lists a message, if there was memory for it.
+fn list_one(message: Result<Bytes, Memory>, messages: &mut Vec<Message>) -> Result<(), Memory>
     ensures { (text : List ℕ) → IfOk message (λ bytes. bytes ≡ text)
         → OnOk result (messages.new.items ≡ messages.old.items ++ text ∷ []) }
 {
@@ -80,8 +84,8 @@ pub fn list_one(message: Result<Bytes, Memory>, messages: &mut Vec<Message>) -> 
     Ok(())
 }
 
-// The same of a message that has this digest, which isn't hashed again.
-fn list_known(
+/// Lists a message that has this digest, if there was memory for it: it isn't hashed again.
+pub fn list_known(
     message: Result<Bytes, Memory>,
     digest: &Digest,
     messages: &mut Vec<Message>,
@@ -95,9 +99,10 @@ fn list_known(
 }
 
 // Lists the messages of one form of an offered place, at which the guard may come next.
-#[tactic(auto, unfolding(mm_digest::specs::Messages::extended_digest_of))]
+#[tactic(auto, unfolding(mm_digest::specs::Messages::extended_digest_of, mm_digest::specs::Messages::anchored_digest_of))]
 fn list_form(
     alloc: Global,
+    known: &mut KnownDigests,
     anchor: &Digest,
     extension: &Digest,
     value: &Digest,
@@ -106,19 +111,21 @@ fn list_form(
     ensures { OnOk result (messages.new.items ≡ messages.old.items
         ++ form_messages anchor.now.bytes extension.now.bytes value.now.bytes) }
 {
-    let next = extended(extension, value);
+    let next = known.extended(extension, value);
     list_known(
         joined(alloc, &extension.bytes, &value.bytes),
         &next,
         messages,
     )?;
-    list_one(anchored_message(alloc, anchor, &next), messages)
+    let shut = known.anchored(anchor, &next);
+    list_known(anchored_message(alloc, anchor, &next), &shut, messages)
 }
 
 // Lists the messages of both forms of an offered place of Opt.
 #[tactic(auto, unfolding(mm_digest::specs::Messages::anchored_digest_of))]
 fn list_point(
     alloc: Global,
+    known: &mut KnownDigests,
     anchor: &Digest,
     extension: &Digest,
     value: &Digest,
@@ -127,19 +134,20 @@ fn list_point(
     ensures { OnOk result (messages.new.items ≡ messages.old.items
         ++ point_messages anchor.now.bytes extension.now.bytes value.now.bytes) }
 {
-    list_form(alloc, anchor, extension, value, messages)?;
+    list_form(alloc, known, anchor, extension, value, messages)?;
     if extension.bytes == zero().bytes {
         return Ok(());
     }
-    let shut = anchored(anchor, extension);
+    let shut = known.anchored(anchor, extension);
     list_known(anchored_message(alloc, anchor, extension), &shut, messages)?;
-    list_form(alloc, &shut, &zero(), value, messages)
+    list_form(alloc, known, &shut, &zero(), value, messages)
 }
 
 /// Lists the messages of a call that offers this place, rightly, and asks for the batch.
 #[tactic(auto, unfolding(mm_model::specs::Chains::guard))]
 pub fn list_place(
     alloc: Global,
+    known: &mut KnownDigests,
     barrier: &[u8; 32],
     place: &Place,
     batch: Batch<'_>,
@@ -151,9 +159,9 @@ pub fn list_place(
     match place {
         Place::Basic(summary) => list_one(link_message(alloc, summary, batch), messages),
         Place::Opt { anchor, extension } => {
-            let value = guard(barrier, batch);
+            let value = known.guard(barrier, batch);
             list_known(guard_message(alloc, barrier, batch), &value, messages)?;
-            list_point(alloc, anchor, extension, &value, messages)
+            list_point(alloc, known, anchor, extension, &value, messages)
         }
     }
 }

@@ -9,7 +9,7 @@ ghost use Rattle.mm_module.specs.Meaning.{state_after};
 ghost use Rattle.mm_digest.specs.declared.variant.Variant.TheVariants.{Opt};
 ghost use Rattle.mm_model.specs.Chains.{register_of, summary_of};
 ghost use Rattle.mm_model.specs.ChainsWords.{own_values};
-ghost use Rattle.mm_model.specs.History.{RegisterEntry, requests_of};
+ghost use Rattle.mm_model.specs.History.{RegisterEntry, items_of_all, requests_of};
 ghost use Rattle.mm_model.specs.Life.{is_empty};
 ghost use Rattle.mm_model.specs.Long.{is_long};
 ghost use Rattle.mm_seal.specs.Body.{content_of};
@@ -17,12 +17,12 @@ ghost use Rattle.mm_model.specs.Places.{NamesPosition};
 ghost use Rattle.mm_model.specs.InstanceWords.{instance_by};
 ghost use Rattle.mm_model.specs.KeptHistory.{kept_batches, kept_entries, kept_segments};
 ghost use Rattle.mm_history.specs.Naming.{BasicNamesAreDecided, OptNamesAreDecided, first_with, anchor_at, is_at, is_behind, is_here, is_inside_at, is_within, some_place, is_place_in, IsDecided};
-ghost use Rattle.mm_history.specs.Waymarks.{AreWaymarks, EndsWithCurrent, IsStage, IsWaymark, digest_behind, stage_at};
+ghost use Rattle.mm_history.specs.Waymarks.{AreWaymarks, BeginsBefore, EndsWithCurrent, IsStage, IsWaymark, digest_behind, stage_at};
 
 use crate::lists::HistoryLists;
 use crate::marks::{own_register, register_of};
 use crate::waymarks::{SegmentStart, Waymark, Waymarks, first_from, is_between};
-use mm_base::{Bytes, Memory};
+use mm_bytes::{Bytes, Memory};
 use mm_digest::{Digest, Variant, anchored, start, zero};
 use mm_model::{BatchRun, KeptBatch, KeptEntry, link, run_batch, some_value};
 use mm_module::Module;
@@ -205,6 +205,7 @@ fn first_stage(id: u8) -> SegmentStart
 {
     SegmentStart {
         count: 0,
+        entries: 0,
         anchor: start(Variant::Opt, id),
         is_clean: true,
     }
@@ -233,17 +234,19 @@ fn last_anchor(
 }
 
 // Where the next segment begins, as it was kept or is computed: by how many segments are before it,
-// and where the one with these items begins.
+// with how many entries, and where the one with these items begins.
 fn stage_behind(
     barrier: &[u8; 32],
     stages: &[SegmentStart],
     count: usize,
+    entries: usize,
     here: &SegmentStart,
     items: &[KeptEntry],
 ) -> SegmentStart
     ensures { (id : ℕ) → (before later : List (List RegisterEntry))
         → here.now ≡ stage_at id barrier.now before
         → count ≡ length before + 1
+        → entries ≡ length (items_of_all (before ++ kept_entries items.now ∷ []))
         → AllByRecursion (IsStage id barrier.now (before ++ kept_entries items.now ∷ later))
         stages.now
         → result ≡ stage_at id barrier.now (before ++ kept_entries items.now ∷ []) }
@@ -255,6 +258,7 @@ fn stage_behind(
     }
     SegmentStart {
         count,
+        entries,
         anchor: anchored(&here.anchor, &register_of(barrier, items)),
         is_clean: both(here.is_clean, !some_value(items)),
     }
@@ -302,27 +306,50 @@ fn both(one: bool, other: bool) -> bool
     one && other
 }
 
-// Whether it is some place of Opt.
-fn some_place(
+// Where a walk over the segments to a place behind so many batches begins: at the last kept place
+// with fewer entries before it, if a segment is behind that, and else where the first segment
+// begins.
+fn stage_before(id: u8, stages: &[SegmentStart], closed: usize, size: usize) -> SegmentStart
+    ensures { (barrier : List ℕ) (segments : List (List RegisterEntry))
+        → closed ≡ length segments
+        → AllByRecursion (IsStage id barrier segments) stages.now
+        → BeginsBefore id barrier segments size result }
+{
+    let behind = stages.partition_point(|stage| stage.entries < size);
+    match stages.get(behind.min(closed).saturating_sub(1)) {
+        Some(stage) if stage.count < closed && stage.entries < size => *stage,
+        _ => first_stage(id),
+    }
+}
+
+// Whether it is some place of Opt, from where the first of the last segments begins.
+fn some_place_from(
     lists: &HistoryLists,
     stages: &[SegmentStart],
     id: u8,
     barrier: &[u8; 32],
     sought: &SoughtPlace<'_>,
+    first: &SegmentStart,
+    closed: &[Vec<KeptEntry>],
 ) -> bool
     requires register { sought.now.register.now.bytes ≡ register_of (own_values barrier.now
         (drop sought.now.start (kept_batches sought.now.named.now))) }
     requires ends { EndsWithCurrent lists.now }
     requires stages { AllByRecursion (IsStage id barrier.now lists.now.closed) stages.now }
+    requires first { first.now ≡ stage_at id barrier.now
+        (take first.now.count lists.now.closed) }
+    requires closed { kept_segments closed.now ≡ drop first.now.count lists.now.closed }
+    requires fits { first.now.entries ≤ length sought.now.named.now }
     ensures { result ≡ some_place id barrier.now lists.now (kept_batches sought.now.named.now)
         sought.now.anchor.now.bytes
-        sought.now.extension.now.bytes [] lists.now.closed }
+        sought.now.extension.now.bytes (take first.now.count lists.now.closed)
+        (drop first.now.count lists.now.closed) }
 {
-    let closed = lists.closed();
+    let all = lists.closed();
     let is_shut = lists.is_clear();
-    let last = last_anchor(id, barrier, stages, closed);
-    let mut here = first_stage(id);
-    let mut entries = 0;
+    let last = last_anchor(id, barrier, stages, all);
+    let mut here = *first;
+    let mut entries = first.entries;
     let mut later = closed.len();
     'closed: for segment in closed {
         later -= 1;
@@ -343,13 +370,57 @@ fn some_place(
         if size > sought.named.len() - entries {
             return is_inside(lists, barrier, &last, sought);
         }
-        here = stage_behind(barrier, stages, closed.len() - later, &here, items);
         entries += size;
+        here = stage_behind(
+            barrier,
+            stages,
+            all.len().saturating_sub(later),
+            entries,
+            &here,
+            items,
+        );
     }
     if is_at(here.is_clean, &here.anchor, entries, sought) {
         return true;
     }
     is_inside(lists, barrier, &last, sought)
+}
+
+// The segments from one on.
+fn segments_from(closed: &[Vec<KeptEntry>], count: usize) -> &[Vec<KeptEntry>]
+    requires { count ≤ length closed.now }
+    ensures { result.now ≡ drop count closed.now }
+{
+    &closed[count..]
+}
+
+// Whether it is some place of Opt.
+fn some_place(
+    lists: &HistoryLists,
+    stages: &[SegmentStart],
+    id: u8,
+    barrier: &[u8; 32],
+    sought: &SoughtPlace<'_>,
+) -> bool
+    requires register { sought.now.register.now.bytes ≡ register_of (own_values barrier.now
+        (drop sought.now.start (kept_batches sought.now.named.now))) }
+    requires ends { EndsWithCurrent lists.now }
+    requires stages { AllByRecursion (IsStage id barrier.now lists.now.closed) stages.now }
+    ensures { result ≡ some_place id barrier.now lists.now (kept_batches sought.now.named.now)
+        sought.now.anchor.now.bytes
+        sought.now.extension.now.bytes [] lists.now.closed }
+{
+    let closed = lists.closed();
+    let first = stage_before(id, stages, closed.len(), sought.named.len());
+    some_place_from(
+        lists,
+        stages,
+        id,
+        barrier,
+        sought,
+        &first,
+        segments_from(closed, first.count),
+    )
 }
 
 // What is known of a position: the batches before it; and in Basic their summary, in Opt the

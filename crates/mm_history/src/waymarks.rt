@@ -1,17 +1,20 @@
 //! What is kept of a history's positions, so that a test of what a snapshot says doesn't walk over
 //! the history again.
 
-ghost use Rattle.std.specs.Prelude.{◌≡◌, true, take};
+ghost use Rattle.std.specs.Prelude.{◌≡◌, ℕ, List, true, take, length, IfSome};
+ghost use Rattle.std.specs.List.{AllByRecursion};
 ghost use Rattle.mm_module.specs.Meaning.{state_after};
-ghost use Rattle.mm_model.specs.History.{requests_of};
+ghost use Rattle.mm_model.specs.History.{requests_of, items_of_all};
+ghost use Rattle.mm_model.specs.KeptHistory.{kept_segments};
 ghost use Rattle.mm_model.specs.Instance.{Instance};
 ghost use Rattle.mm_history.specs.Marks.{marks_of};
-ghost use Rattle.mm_history.specs.Waymarks.{AreWaymarks, EndsWithCurrent, IsBetween, is_inside_batch, is_behind_all};
+ghost use Rattle.mm_history.specs.Waymarks.{AreWaymarks, EndsWithCurrent, IsBetween, IsStage, is_inside_batch, is_behind_all};
 
 use crate::lists::HistoryLists;
 use crate::marks::HistoryMarks;
-use mm_base::{Bytes, LONGEST_LINE, Memory};
+use mm_bytes::{Bytes, LONGEST_LINE, Memory};
 use mm_digest::{Digest, Variant};
+use mm_model::KeptEntry;
 use std::alloc::Global;
 
 /// The most bytes that are kept of a state: more than an offer has, which stands in hexadecimal in
@@ -39,6 +42,8 @@ pub struct Waymark {
 pub struct SegmentStart {
     /// How many segments are before it.
     pub(crate) count: usize,
+    /// How many entries these have.
+    pub(crate) entries: usize,
     pub(crate) anchor: Digest,
     /// Whether none of them holds a value that stands for no batch.
     pub(crate) is_clean: bool,
@@ -59,6 +64,23 @@ fn front(bytes: &[u8], limit: usize) -> &[u8]
         return bytes;
     }
     &bytes[..limit]
+}
+
+// How many entries these segments have, if it is kept how many those before the last one have.
+fn entries_in(stages: &[SegmentStart], closed: &[Vec<KeptEntry>]) -> Option<usize>
+    ensures { (id : ℕ) (barrier : List ℕ)
+        → AllByRecursion (IsStage id barrier (kept_segments closed.now)) stages.now
+        → IfSome result (λ entries. entries ≡ length (items_of_all (kept_segments closed.now))) }
+{
+    let Some((last, before)) = closed.split_last() else {
+        return Some(0);
+    };
+    match stages.get(before.len()) {
+        Some(stage) if stage.count == before.len() => {
+            stage.entries.checked_add(last.as_slice().len())
+        }
+        _ => None,
+    }
 }
 
 impl Waymarks {
@@ -118,14 +140,19 @@ impl Waymarks {
         Ok(())
     }
 
-    /// Keeps the place where the next segment begins.
+    /// Keeps the place where the next segment begins, if that where the last one began is kept.
     pub fn keep_stage(&mut self, lists: &HistoryLists, marks: &HistoryMarks) -> Result<(), Memory>
         ensures { (i : Instance) → marks.now ≡ marks_of i lists.now
             → AreWaymarks i.variant i.meaning i.barrier lists.now self.old
             → AreWaymarks i.variant i.meaning i.barrier lists.now self.new }
     {
+        let closed = lists.closed();
+        let Some(entries) = entries_in(self.stages.as_slice(), closed) else {
+            return Ok(());
+        };
         self.stages.push(SegmentStart {
-            count: lists.closed().len(),
+            count: closed.len(),
+            entries,
             anchor: marks.cell,
             is_clean: !marks.is_marred,
         })?;

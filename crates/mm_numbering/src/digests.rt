@@ -7,7 +7,7 @@ ghost use Rattle.std.specs.Ordering.{nat_cmp, is_eq};
 ghost use Rattle.mm_numbering.specs.Listing.{first_number_of, is_zero, lower_pair};
 ghost use Rattle.mm_numbering.specs.Lists.{pair_of, number_at, AddsDigest, CountsDigests};
 
-use mm_base::Memory;
+use mm_bytes::Memory;
 use mm_digest::{Digest, zero};
 use std::alloc::Global;
 use std::collections::BTreeMap;

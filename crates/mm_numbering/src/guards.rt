@@ -6,7 +6,7 @@ ghost use Rattle.std.specs.Cmp.Lexicographic.{slice_cmp};
 ghost use Rattle.std.specs.List.{list_any};
 ghost use Rattle.std.specs.Ordering.{nat_cmp};
 ghost use Rattle.std.specs.Str.{bytes_eq};
-ghost use Rattle.mm_base.specs.Limits.{most_events};
+ghost use Rattle.mm_bytes.specs.Limits.{most_events};
 ghost use Rattle.mm_module.specs.Batch.{normal_batch};
 ghost use Rattle.mm_module.specs.Batches.{batch_of};
 ghost use Rattle.mm_model.specs.Chains.{guard};
@@ -19,7 +19,7 @@ ghost use Rattle.mm_numbering.specs.Listing.{number_of_first};
 ghost use Rattle.mm_numbering.specs.Guards.{has_foreign_value, is_secured};
 ghost use Rattle.mm_numbering.specs.Guards.{events_of, batches_unless_long, digest_items, HasAll, secured_event_by};
 
-use mm_base::Memory;
+use mm_bytes::Memory;
 use mm_digest::{Digest, Variant};
 use mm_model::{guard, is_long, normal};
 use mm_module::Batch;

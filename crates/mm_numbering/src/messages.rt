@@ -9,7 +9,7 @@ ghost use Rattle.mm_numbering.specs.Lists.{number_at, ListsMessages};
 
 use crate::digests::DigestIndex;
 use crate::texts::TextList;
-use mm_base::Memory;
+use mm_bytes::Memory;
 use mm_history::Message;
 use std::alloc::Global;
 

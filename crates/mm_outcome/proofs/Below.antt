@@ -10,7 +10,7 @@ pub use Rattle.std.proofs.lemmas.Bool.Decides.{nat_tests}
 pub use Rattle.std.proofs.lemmas.List.{append-nil, ext_get_or, set_split}
 pub use Rattle.std.proofs.lemmas.List.Elements.{All-cons, All-nil, Contains-append_left}
 pub use Rattle.sha2.specs.Sha256.{add_state, digest_bytes, first_words, initial_hash_256, next_word, padded_message, rounds}
-pub use Rattle.mm_base.specs.Limits.{last_position, longest_request, most_members}
+pub use Rattle.mm_bytes.specs.Limits.{last_position, longest_request, most_members}
 pub use Rattle.mm_digest.specs.Messages.{anchored_message, anchored_digest_of, extended_message, start_message, zero_bytes}
 pub use Rattle.mm_digest.specs.declared.variant.Variant.{Variant}
 pub use Rattle.mm_digest.specs.declared.variant.Variant.TheVariants.{Basic, Opt}

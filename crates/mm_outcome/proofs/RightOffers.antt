@@ -4,7 +4,7 @@ use Rattle.mm_outcome.proofs.Below.{Basic, Opt, parts_of, sealed_parts, Content,
 use Rattle.mm_outcome.proofs.Below.{IsLawful, state_after, state_after-is_spelled, History, requests_of, total_of, Instance, NamesPosition}
 use Rattle.mm_outcome.proofs.Below.{right_content}
 use Rattle.std.proofs.lemmas.Slice.Eq.{bytes_eq-Decides}
-use Rattle.mm_base.specs.Limits.{limit_of}
+use Rattle.mm_bytes.specs.Limits.{limit_of}
 use Rattle.mm_digest.specs.LengthLaws.{length-zero_bytes}
 use Rattle.mm_seal.specs.SealLaws.{sealed_once}
 use Rattle.mm_seal.specs.Snapshot.{IsPlace, sealed_snapshot_of, snapshot_front}

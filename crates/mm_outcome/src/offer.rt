@@ -5,7 +5,7 @@ ghost use Rattle.std.specs.Option.{option_map};
 ghost use Rattle.mm_outcome.specs.EventOffers.{offered_bytes, bytes_with_flipped_bit};
 ghost use Rattle.mm_outcome.specs.OfferedBytes.{bytes_in};
 
-use mm_base::{Bytes, Memory};
+use mm_bytes::{Bytes, Memory};
 use mm_schedule::Offer;
 use std::alloc::Global;
 

@@ -6,12 +6,12 @@ pub use Rattle.std.proofs.Common.{drop, Err, false, inl, inr, length, length-app
 pub use Rattle.std.proofs.Common.{Option, refl, Result, Some, subst, sym, take, take-append-drop, true, ℕ}
 pub use Rattle.std.proofs.KnownBytes.{Appends-nil, Appends-trans, Consumes-nil, Consumes-trans}
 pub use Rattle.std.proofs.lemmas.Bool.Decides.{nat_tests}
-pub use Rattle.mm_lines.specs.Input.{IsUnbroken, joined_lines, lines_of, lines_with_front, tail_with_front, tail_of}
-pub use Rattle.mm_lines.specs.InputLaws.{joined-append, lines_of-append, lines_of-joined, lines_of-line, lines_of-unbroken, tail_of-append}
-pub use Rattle.mm_lines.specs.InputLaws.{tail_of-joined, tail_of-line, tail_of-unbroken}
-pub use Rattle.mm_base.specs.Limits.{longest_line, most_events}
-pub use Rattle.mm_lines.specs.declared.replay_fault.ReplayFault.{ReplayFault}
-pub use Rattle.mm_lines.specs.declared.replay_fault.ReplayFault.TheVariants.{BadLine, LineLong, Memory, ReadFault, TooMuch, WriteFault}
+pub use Rattle.mm_base.specs.Input.{IsUnbroken, joined_lines, lines_of, lines_with_front, tail_with_front, tail_of}
+pub use Rattle.mm_base.specs.InputLaws.{joined-append, lines_of-append, lines_of-joined, lines_of-line, lines_of-unbroken, tail_of-append}
+pub use Rattle.mm_base.specs.InputLaws.{tail_of-joined, tail_of-line, tail_of-unbroken}
+pub use Rattle.mm_bytes.specs.Limits.{longest_line, most_events}
+pub use Rattle.mm_base.specs.declared.replay_fault.ReplayFault.{ReplayFault}
+pub use Rattle.mm_base.specs.declared.replay_fault.ReplayFault.TheVariants.{BadLine, LineLong, Memory, ReadFault, TooMuch, WriteFault}
 pub use Rattle.mm_play.specs.Play.{outcome_after_bytes, outcome_of_both, outcome_of_answer, outcome_at_end, outcome_of_tail, outcome_then}
 pub use Rattle.mm_play.specs.Play.{refusal_at, outcome_of_lines, outcome_of_rest, outcome_of_input, stopped_outcome}
 pub use Rattle.mm_play.specs.Play.{PlayOutcome, play_outcome}

@@ -84,21 +84,33 @@ module _ {P : Type 0} (answer : P → List ℕ → Result (List ℕ × P) LineRe
   TailStops tail number _ = ⊥
 
   module _ (closing : P → Option (List ℕ)) (player : P) where
+    -- the input doesn't end here: either no last lines are written, or bytes are left
+    abbrev pub NeverEnds : P → List ℕ → Type 0
+    NeverEnds next tail = (last : List ℕ) → closing next ≡ Some last → tail ≡ [] → ⊥
+
+    no_last : (next : P) (tail : List ℕ) → closing next ≡ None → NeverEnds next tail
+    no_last next tail none last is empty = cc
+
+    some_left : (next : P) (byte : ℕ) (bytes : List ℕ) → NeverEnds next (byte ∷ bytes)
+    some_left next byte bytes last is empty = cc
+
     -- What a run over an input comes to: all lines are answered, and the last ones are written; or it stops at a line, or behind all.
     abbrev pub ComesTo : List (List ℕ) → List ℕ → List ℕ → Result P ReplayFault → Type 0
     ComesTo lines tail written (Ok end) = (said : List ℕ) × (last : List ℕ) × (tail ≡ [])
         × (outcome_of_lines answer 1 player lines ≡ play_outcome said (Ok end))
         × (closing end ≡ Some last) × (written ≡ said ++ last)
     ComesTo lines tail written (Err fault) = HaltsAt 1 player lines written fault
-        ⊎ ((next : P) × (outcome_of_lines answer 1 player lines ≡ play_outcome written (Ok next)) × TailStops tail (1 + length lines) fault)
+        ⊎ ((next : P) × (outcome_of_lines answer 1 player lines ≡ play_outcome written (Ok next)) × TailStops tail (1 + length lines) fault
+        × NeverEnds next tail)
 
     abbrev ComesIn : List (List ℕ) → List ℕ → PlayOutcome P → Type 0
     ComesIn lines tail t = ComesTo lines tail t.written t.outcome
 
     ends_at : (lines : List (List ℕ)) (tail said : List ℕ) (next : P) (why : ReplayFault) → outcome_of_lines answer 1 player lines
         ≡ play_outcome said (Ok next)
-        → TailStops tail (1 + length lines) why → ComesTo lines tail (said ++ []) (Err why)
-    ends_at lines tail said next why went s = inr (next, went ∙ ap (λ (w : List ℕ). play_outcome w (Ok next)) (sym (append-nil said)), s)
+        → TailStops tail (1 + length lines) why → NeverEnds next tail → ComesTo lines tail (said ++ []) (Err why)
+    ends_at lines tail said next why went s never =
+        inr (next, went ∙ ap (λ (w : List ℕ). play_outcome w (Ok next)) (sym (append-nil said)), s, never)
 
     comes_by : (lines : List (List ℕ)) (tail written : List ℕ) (outcome : Result P ReplayFault) → RanBy 1 player lines written outcome
         → ComesIn lines tail (outcome_then (outcome_of_tail closing (1 + length lines) tail) written outcome)
@@ -107,7 +119,7 @@ module _ {P : Type 0} (answer : P → List ℕ → Result (List ℕ × P) LineRe
       where
         by : (last : Option (List ℕ)) → closing next ≡ last
             → ComesIn lines [] (outcome_after_bytes written (outcome_at_end (1 + length lines) next last))
-        by None is = ends_at lines [] written next (BadLine (1 + length lines)) went refl
+        by None is = ends_at lines [] written next (BadLine (1 + length lines)) went refl (no_last next [] is)
         by (Some last) is = (written, last, refl, went, is, refl)
     comes_by lines (byte ∷ bytes) written (Ok next) went = by (nat_lt longest_line (length (byte ∷ bytes))) refl
       where
@@ -115,8 +127,9 @@ module _ {P : Type 0} (answer : P → List ℕ → Result (List ℕ × P) LineRe
             (outcome_after_bytes written (cond long (stopped_outcome (LineLong (1 + length lines)))
             (stopped_outcome {P = P} (BadLine (1 + length lines)))))
         by true is =
-            ends_at lines (byte ∷ bytes) written next (LineLong (1 + length lines)) went (refl, is_longer (length (byte ∷ bytes)) is)
-        by false is = ends_at lines (byte ∷ bytes) written next (BadLine (1 + length lines)) went refl
+            ends_at lines (byte ∷ bytes) written next (LineLong (1 + length lines)) went
+            (refl, is_longer (length (byte ∷ bytes)) is) (some_left next byte bytes)
+        by false is = ends_at lines (byte ∷ bytes) written next (BadLine (1 + length lines)) went refl (some_left next byte bytes)
 
     pub comes : (input : List ℕ) → ComesIn (lines_of input) (tail_of input) (outcome_of_input answer closing player input)
     comes input = comes_by (lines_of input) (tail_of input) _ _ (ran_by (lines_of input) 1 player)
@@ -168,7 +181,7 @@ module _ {P : Type 0} (answer : P → List ℕ → Result (List ℕ × P) LineRe
         → HoldsOfWhole left taken (λ input. outcome_of_input answer closing player input ≡ play_outcome sent (Err (BadLine number)))
         → HaltsAt 1 player (lines_of taken) sent (BadLine number)
         ⊎ (IsAtEnd left × ((next : P) × (outcome_of_lines answer 1 player (lines_of taken) ≡ play_outcome sent (Ok next))
-        × (number ≡ 1 + length (lines_of taken))))
+        × (number ≡ 1 + length (lines_of taken)) × NeverEnds next (tail_of taken)))
     bad_at left taken sent number (inr w) = elim (comes_so taken sent (Err (BadLine number)) w.1) [ inl h ↦ inl h | inr t ↦ inr (w.0, t) ]
     bad_at left taken sent number (inl each) =
         elim (comes_so taken sent (Err (BadLine number))

@@ -1,10 +1,10 @@
 -- The headline of a command over events, from the run of its lines.
 use Rattle.mm_play.proofs.Below.{◌≡◌, ◌∙◌, ◌+◌, ◌≤◌, ◌<◌, ℕ, List, [], ◌∷◌, ◌++◌, length, map, Result, Ok, Err, Option, None, Some, refl}
-use Rattle.mm_play.proofs.Below.{sym, ap, subst, append-nil, append_assoc, arith, inl, inr, ◌⊎◌, AllByRecursion, IsUnbroken, lines_of}
+use Rattle.mm_play.proofs.Below.{true, false, sym, ap, subst, append-nil, append_assoc, arith, inl, inr, ◌⊎◌, AllByRecursion, IsUnbroken, lines_of}
 use Rattle.mm_play.proofs.Below.{tail_of, joined_lines, ReplayFault, Memory, ReadFault, WriteFault, BadLine, LineLong, TooMuch}
 use Rattle.mm_play.proofs.Below.{longest_line, LineRefusal, Bad, Much, play_outcome, outcome_of_lines, outcome_of_input, HoldsOfWhole}
 use Rattle.mm_play.proofs.Below.{AnswerFits, IsFrontOf}
-use Rattle.mm_lines.specs.InputLaws.{joined-append}
+use Rattle.mm_base.specs.InputLaws.{joined-append}
 use Rattle.mm_play.specs.Counting.{same_answer, no_answer}
 use Rattle.mm_play.specs.HeadingStep.{HeadingStep, More, Begins}
 use Rattle.mm_play.specs.Headline.{EventPlayer, HeadingLeads, IsNextLine, IsOver, IsLeft, TextWentOut, AreAnswered}
@@ -200,19 +200,19 @@ module _ {G H E S R : Type 0} (p : EventPlayer G H E S) (heads : HeadStage G R) 
     module _ (left : Option (List ℕ)) (after stop sent : List ℕ) {T : Type 0} (result : Result T ReplayFault) (done : List (List ℕ)) where
       abbrev Continues : Type 0
       Continues = ((at : G) × HeadingLeads p.head p.start done (More at)
-          × IsLeft left after (length done) (λ line. p.head at line ≡ None) (λ line. ⊥) result
+          × IsLeft left after (length done) false (λ line. p.head at line ≡ None) (λ line. ⊥) result
           × TextWentOut after [] None stop sent result)
           ⊎ ((it : AreAnswered p Holds done)
-          × IsLeft left after (length done) (λ line. p.event_in it.header line ≡ None)
+          × IsLeft left after (length done) true (λ line. p.event_in it.header line ≡ None)
           (λ line. IsOver it.others (p.kept (it.shown it.events)) line) result
           × TextWentOut after (p.text it.events (it.shown it.events)) (Some (p.last (it.shown it.events))) stop sent result)
 
       -- by what holds of each
       continues : (written : List ℕ) (last : P) → Opened p.start done written last
           → ((h : StillHeading p.start done written last)
-          → IsLeft left after (length done) (λ line. p.head h.to line ≡ None) (λ line. ⊥) result)
+          → IsLeft left after (length done) false (λ line. p.head h.to line ≡ None) (λ line. ⊥) result)
           → ((e : BegunEvents p.start done written last)
-          → IsLeft left after (length done) (λ line. p.event_in e.header line ≡ None)
+          → IsLeft left after (length done) true (λ line. p.event_in e.header line ≡ None)
           (λ line. IsOver e.others (p.kept (shown e.header e.answers.events)) line) result)
           → ((text : List ℕ) (end : Option (List ℕ)) → written ≡ text → closing last ≡ end → TextWentOut after text end stop sent result)
           → Continues
@@ -254,9 +254,9 @@ module _ {G H E S R : Type 0} (p : EventPlayer G H E S) (heads : HeadStage G R) 
       told_at : (done rest : List (List ℕ)) (written : List ℕ) (next : P) → lines_of taken ≡ done ++ rest
           → outcome_of_lines answer 1 first done ≡ play_outcome written (Ok next)
           → ((h : StillHeading p.start done written next) → AllByRecursion IsUnbroken rest
-          → IsLeft left (joined_lines rest ++ tail_of taken) (length done) (λ line. p.head h.to line ≡ None) (λ line. ⊥) result)
+          → IsLeft left (joined_lines rest ++ tail_of taken) (length done) false (λ line. p.head h.to line ≡ None) (λ line. ⊥) result)
           → ((e : BegunEvents p.start done written next) → AllByRecursion IsUnbroken rest
-          → IsLeft left (joined_lines rest ++ tail_of taken) (length done) (λ line. p.event_in e.header line ≡ None)
+          → IsLeft left (joined_lines rest ++ tail_of taken) (length done) true (λ line. p.event_in e.header line ≡ None)
           (λ line. IsOver e.others (p.kept (shown e.header e.answers.events)) line) result)
           → ((text : List ℕ) (end : Option (List ℕ)) → written ≡ text → closing next ≡ end
           → TextWentOut (joined_lines rest ++ tail_of taken) text end [] sent result)
@@ -358,7 +358,16 @@ module _ {G H E S R : Type 0} (p : EventPlayer G H E S) (heads : HeadStage G R) 
               )) (λ text end w e. all_text sent text w)
           | inr t ↦ told_at left taken sent T (Err (BadLine number)) (lines_of taken) [] sent t.1.0 (whole_lines taken) t.1.1
               (λ h u. (omega (arith, t.1.2), inr (t.0, unbroken_tail taken)))
-              (λ e u. (omega (arith, t.1.2), inr (t.0, unbroken_tail taken)))
+              (λ e u. (
+                omega (arith, t.1.2),
+                inr (
+                  t.0,
+                  (
+                    unbroken_tail taken,
+                    t.1.3 (p.last (shown e.header e.answers.events)) (closing_is (lines_of taken) sent t.1.0 e),
+                  ),
+                ),
+              ))
               (λ text end w e. all_text sent text w)
         ]
     tells {T} next left taken sent (Err (LineLong number)) settled =

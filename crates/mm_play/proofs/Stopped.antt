@@ -1,9 +1,9 @@
 -- The headline of a command over events: by a whole play, with what is written where it stopped, and with less said of what is shown.
 use Rattle.mm_play.proofs.Below.{◌≡◌, ◌∙◌, ℕ, List, [], ◌∷◌, ◌++◌, Result, Ok, Err, Option, None, Some, refl, sym, ap, subst, append-nil}
-use Rattle.mm_play.proofs.Below.{inl, inr, ReplayFault, Memory, ReadFault, WriteFault, BadLine, LineLong, TooMuch}
+use Rattle.mm_play.proofs.Below.{Bool, true, false, inl, inr, ReplayFault, Memory, ReadFault, WriteFault, BadLine, LineLong, TooMuch}
 use Rattle.mm_play.proofs.Below.{IsFrontOf, Consumes-nil, Appends-trans, PlaysInput, length}
-use Rattle.mm_lines.specs.Streams.{SinkSends}
-use Rattle.mm_base.specs.declared.fault.WriteFault as write
+use Rattle.mm_base.specs.Streams.{SinkSends}
+use Rattle.mm_bytes.specs.declared.fault.WriteFault as write
 use Rattle.mm_play.specs.Headline.{EventPlayer, IsLeft, TextWentOut, AreAnswered, TellsEvents}
 use Rattle.mm_play.specs.PlaysEvents.{PlaysEvents}
 use Rattle.mm_play.specs.StageShows.{StageShows}
@@ -65,9 +65,9 @@ abbrev pub bare : {T : Type 0} → Result T ReplayFault → Result (Unit {0}) Re
 bare (Ok _) = Ok tt
 bare (Err fault) = Err fault
 
-module _ (left : Option (List ℕ)) (behind : List ℕ) (answered : ℕ) (IsNone IsMuch : List ℕ → Type 0) where
-  left_bare : {T : Type 0} (result : Result T ReplayFault) → IsLeft left behind answered IsNone IsMuch result
-      → IsLeft left behind answered IsNone IsMuch (bare result)
+module _ (left : Option (List ℕ)) (behind : List ℕ) (answered : ℕ) (may_end : Bool) (IsNone IsMuch : List ℕ → Type 0) where
+  left_bare : {T : Type 0} (result : Result T ReplayFault) → IsLeft left behind answered may_end IsNone IsMuch result
+      → IsLeft left behind answered may_end IsNone IsMuch (bare result)
   left_bare (Ok _) h = h
   left_bare (Err ReadFault) h = h
   left_bare (Err WriteFault) h = h
@@ -144,12 +144,12 @@ module _ {G H E S : Type 0} (p : EventPlayer G H E S) (All Less : H → List E �
           | inl (at, leads, left_so, went) ↦ inl (
             at,
             leads,
-            left_bare left' t.behind (length t.done) (λ line. p.head at line ≡ None) (λ line. ⊥) result left_so,
+            left_bare left' t.behind (length t.done) false (λ line. p.head at line ≡ None) (λ line. ⊥) result left_so,
             went_on t.behind [] None t.sent sends.sent stop result silent front went,
           )
           | inr (it, left_so, went) ↦ inr (
             answered_less t.done it,
-            left_bare left' t.behind (length t.done) _ _ result left_so,
+            left_bare left' t.behind (length t.done) true _ _ result left_so,
             went_on t.behind (p.text it.events (it.shown it.events)) (Some (p.last (it.shown it.events))) t.sent sends.sent stop result
                 silent front went,
           )

@@ -45,7 +45,7 @@ module _ {P : Type 0} (answer : P → List ℕ → Result (List ℕ × P) LineRe
     answered = m.lines h.done written (h.next, h.ran);
     stopped = at_line h;
   }
-  answered_first input written fault stops at_line behind (inr (next, went, s)) = record {
+  answered_first input written fault stops at_line behind (inr (next, went, s, never)) = record {
     done = lines_of input;
     rest = [];
     split = sym (append-nil (lines_of input));

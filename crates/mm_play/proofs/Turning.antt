@@ -6,16 +6,16 @@ use Rattle.mm_play.proofs.Below.{TooMuch, longest_line, LineRefusal, refusal_at,
 use Rattle.mm_play.proofs.Below.{PlayerAnswers, TurnPlays, TurnAdvances, ◌≢◌, length, subst, append-nil, Appends-trans, Consumes-nil}
 use Rattle.mm_play.proofs.Below.{IsUnbroken, ReadFault, WriteFault, PlayOutcome, outcome_after_bytes, IsFrontOf, SendsDue, SendsAndAnswers}
 use Rattle.mm_play.proofs.Below.{IsSent, PlaysNext}
-use Rattle.mm_lines.specs.Lines.{IsLineFront}
-use Rattle.mm_lines.specs.ReadsNextLine.{ReadsNextLine}
-use Rattle.mm_lines.specs.declared.lines.LineFault.{LineFault}
-use Rattle.mm_lines.specs.declared.lines.LineFault.TheVariants as fault
-use Rattle.mm_lines.specs.declared.lines.Read.{Read}
-use Rattle.mm_lines.specs.declared.lines.Read.TheVariants.{Line, Tail}
+use Rattle.mm_base.specs.Lines.{IsLineFront}
+use Rattle.mm_base.specs.ReadsNextLine.{ReadsNextLine}
+use Rattle.mm_base.specs.declared.lines.LineFault.{LineFault}
+use Rattle.mm_base.specs.declared.lines.LineFault.TheVariants as fault
+use Rattle.mm_base.specs.declared.lines.Read.{Read}
+use Rattle.mm_base.specs.declared.lines.Read.TheVariants.{Line, Tail}
 use Rattle.mm_play.proofs.Runs.{outcome_of_rest-refused, outcome_of_rest-long, outcome_of_rest-tail, outcome_of_rest-answered}
 use Rattle.std.proofs.Math.Seq.{take-append_seam}
 use Rattle.std.proofs.lemmas.List.Elements.{All-take}
-use Rattle.mm_base.specs.declared.fault.WriteFault as write
+use Rattle.mm_bytes.specs.declared.fault.WriteFault as write
 use Rattle.mm_play.proofs.Telling.{for_whole}
 
 module _ {P : Type 0} (answer : P → List ℕ → Result (List ℕ × P) LineRefusal) (closing : P → Option (List ℕ)) (number : ℕ) (player next : P)

@@ -1,12 +1,12 @@
 -- The headline of a command over events: which lines it answered, and by how it ended what is left
 -- and what went out.
-use Rattle.std.specs.Prelude.{◌≡◌, ◌≤◌, ◌<◌, ℕ, ◌+◌, List, [], ◌∷◌, ◌++◌, length, map, Option, None, Some, Result, Ok, Err, ◌⊎◌}
+use Rattle.std.specs.Prelude.{◌≡◌, ◌≢◌, ◌≤◌, ◌<◌, ℕ, ◌+◌, Bool, true, false, List, [], ◌∷◌, ◌++◌, length, map, Option, None, Some, Result, Ok, Err, ◌⊎◌}
 use Rattle.std.specs.Io.KnownBytes.{Appends, Consumes, IsAtEnd}
 use Rattle.std.specs.List.{AllByRecursion, sum_by}
-use Rattle.mm_lines.specs.Input.{IsUnbroken, joined_lines}
-use Rattle.mm_base.specs.Limits.{longest_line, most_events}
-use Rattle.mm_lines.specs.declared.replay_fault.ReplayFault.{ReplayFault}
-use Rattle.mm_lines.specs.declared.replay_fault.ReplayFault.TheVariants.{Memory, ReadFault, WriteFault, BadLine, LineLong, TooMuch}
+use Rattle.mm_base.specs.Input.{IsUnbroken, joined_lines}
+use Rattle.mm_bytes.specs.Limits.{longest_line, most_events}
+use Rattle.mm_base.specs.declared.replay_fault.ReplayFault.{ReplayFault}
+use Rattle.mm_base.specs.declared.replay_fault.ReplayFault.TheVariants.{Memory, ReadFault, WriteFault, BadLine, LineLong, TooMuch}
 use Rattle.mm_play.specs.HeadingStep.{HeadingStep, More, Begins}
 use Rattle.mm_play.specs.KeptBytes.{most_kept_bytes}
 use Rattle.mm_play.specs.Fronts.{IsFrontOf}
@@ -43,28 +43,35 @@ abbrev pub IsOver : (before : List (List ℕ)) (kept : ℕ) → List ℕ → Typ
 IsOver before kept line = (most_events ≤ length before)
     ⊎ (most_kept_bytes < sum_by length before + length line + kept)
 
--- By how it ended, what of the bytes taken is left behind so many answered lines. `IsNone` says
--- that a line is none to be answered, `IsMuch` that it is one too many.
+-- The bytes that an input ends with lack an LF; and where it may end behind the lines before them,
+-- there are some.
+abbrev pub IsCutShort : (may_end : Bool) → List ℕ → Type 0
+IsCutShort true bytes = IsUnbroken bytes × (bytes ≢ [])
+IsCutShort false bytes = IsUnbroken bytes
+
+-- By how it ended, what of the bytes taken is left behind so many answered lines. `may_end` says
+-- whether the input may end behind these, `IsNone` that a line is none to be answered, `IsMuch`
+-- that it is one too many.
 abbrev pub IsLeft : {T : Type 0} → (left : Option (List ℕ)) (behind : List ℕ) (answered : ℕ)
-    (IsNone IsMuch : List ℕ → Type 0) → Result T ReplayFault → Type 0
+    (may_end : Bool) (IsNone IsMuch : List ℕ → Type 0) → Result T ReplayFault → Type 0
 -- nothing, and the input is at its end
-IsLeft left behind answered IsNone IsMuch (Ok _) = IsAtEnd left × (behind ≡ [])
+IsLeft left behind answered may_end IsNone IsMuch (Ok _) = IsAtEnd left × (behind ≡ [])
 -- less than a line, and no more than a line may have
-IsLeft left behind answered IsNone IsMuch (Err ReadFault) =
+IsLeft left behind answered may_end IsNone IsMuch (Err ReadFault) =
     IsUnbroken behind × (length behind ≤ longest_line)
 -- whatever there may be
-IsLeft left behind answered IsNone IsMuch (Err WriteFault) = Unit {0}
-IsLeft left behind answered IsNone IsMuch (Err Memory) = Unit {0}
+IsLeft left behind answered may_end IsNone IsMuch (Err WriteFault) = Unit {0}
+IsLeft left behind answered may_end IsNone IsMuch (Err Memory) = Unit {0}
 -- first the line of this number, which is none to be answered; or the input ends before its LF
-IsLeft left behind answered IsNone IsMuch (Err (BadLine number)) = (number ≡ answered + 1)
+IsLeft left behind answered may_end IsNone IsMuch (Err (BadLine number)) = (number ≡ answered + 1)
     × (((line : List ℕ) × IsNextLine line behind × IsNone line)
-    ⊎ (IsAtEnd left × IsUnbroken behind))
+    ⊎ (IsAtEnd left × IsCutShort may_end behind))
 -- first the line of this number, which is too long
-IsLeft left behind answered IsNone IsMuch (Err (LineLong number)) = (number ≡ answered + 1)
+IsLeft left behind answered may_end IsNone IsMuch (Err (LineLong number)) = (number ≡ answered + 1)
     × (long : List ℕ) × (more : List ℕ) × (behind ≡ long ++ more) × IsUnbroken long
     × (longest_line < length long)
 -- first a line that is one too many
-IsLeft left behind answered IsNone IsMuch (Err TooMuch) =
+IsLeft left behind answered may_end IsNone IsMuch (Err TooMuch) =
     (line : List ℕ) × IsNextLine line behind × IsMuch line
 
 -- By how it ended, what went out, where this text answers the lines, and `last` is what is written
@@ -113,10 +120,11 @@ pub record TellsEvents {G H E S T : Type 0} (p : EventPlayer G H E S)
   pub split : taken ≡ joined_lines done ++ behind
   pub short : AllByRecursion (λ line. IsUnbroken line × (length line ≤ longest_line)) done
   pub continues : ((at : G) × HeadingLeads p.head p.start done (More at)
-      × IsLeft new.left behind (length done) (λ line. p.head at line ≡ None) (λ line. ⊥) result
+      × IsLeft new.left behind (length done) false (λ line. p.head at line ≡ None) (λ line. ⊥)
+      result
       × TextWentOut behind [] None stop sent result)
       ⊎ ((it : AreAnswered p Holds done)
-      × IsLeft new.left behind (length done) (λ line. p.event_in it.header line ≡ None)
+      × IsLeft new.left behind (length done) true (λ line. p.event_in it.header line ≡ None)
       (λ line. IsOver it.others (p.kept (it.shown it.events)) line) result
       × TextWentOut behind (p.text it.events (it.shown it.events))
       (Some (p.last (it.shown it.events))) stop sent result)

@@ -1,10 +1,10 @@
 -- A run over the lines of an input. A player answers each line, with a reply and the player after
 -- it, or refuses it; and says what is written last, where the input may end.
 use Rattle.std.specs.Prelude.{ℕ, ◌+◌, List, [], ◌∷◌, ◌++◌, length, nat_lt, Option, None, Some, Result, Ok, Err, if◌then◌else◌}
-use Rattle.mm_lines.specs.Input.{lines_of, tail_of}
-use Rattle.mm_lines.specs.declared.replay_fault.ReplayFault.{ReplayFault}
-use Rattle.mm_lines.specs.declared.replay_fault.ReplayFault.TheVariants.{BadLine, LineLong, TooMuch}
-use Rattle.mm_base.specs.Limits.{longest_line}
+use Rattle.mm_base.specs.Input.{lines_of, tail_of}
+use Rattle.mm_base.specs.declared.replay_fault.ReplayFault.{ReplayFault}
+use Rattle.mm_base.specs.declared.replay_fault.ReplayFault.TheVariants.{BadLine, LineLong, TooMuch}
+use Rattle.mm_bytes.specs.Limits.{longest_line}
 use Rattle.mm_play.specs.declared.player.LineRefusal.{LineRefusal}
 use Rattle.mm_play.specs.declared.player.LineRefusal.TheVariants.{Bad, Much}
 

@@ -1,6 +1,6 @@
 -- What a command over events does with an input.
 use Rattle.std.specs.Prelude.{List, [], Result}
-use Rattle.mm_lines.specs.declared.replay_fault.ReplayFault.{ReplayFault}
+use Rattle.mm_base.specs.declared.replay_fault.ReplayFault.{ReplayFault}
 use Rattle.mm_play.specs.Headline.{EventPlayer, TellsEvents}
 use Rattle.mm_play.specs.PlaysInput.{PlaysInput}
 use Rattle.mm_play.specs.Stage.{EventStage, HeadStage, LineStage, AtHeading, line_answer, closing_lines}

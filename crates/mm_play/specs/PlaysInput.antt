@@ -1,11 +1,11 @@
 -- What a call that answers the lines of an input took, wrote and answers.
 use Rattle.std.specs.Prelude.{◌≡◌, ℕ, ◌≤◌, List, ◌++◌, length, Option, Result, Ok, Err, Bool, true, false, ◌⊎◌}
 use Rattle.std.specs.Io.KnownBytes.{Appends, Consumes, IsAtEnd}
-use Rattle.mm_base.specs.Faults.{CountRose}
-use Rattle.mm_lines.specs.Input.{lines_of, tail_of}
-use Rattle.mm_base.specs.Limits.{longest_line}
-use Rattle.mm_lines.specs.declared.replay_fault.ReplayFault.{ReplayFault}
-use Rattle.mm_lines.specs.declared.replay_fault.ReplayFault.TheVariants.{Memory, ReadFault, WriteFault, BadLine, LineLong, TooMuch}
+use Rattle.mm_bytes.specs.Faults.{CountRose}
+use Rattle.mm_base.specs.Input.{lines_of, tail_of}
+use Rattle.mm_bytes.specs.Limits.{longest_line}
+use Rattle.mm_base.specs.declared.replay_fault.ReplayFault.{ReplayFault}
+use Rattle.mm_base.specs.declared.replay_fault.ReplayFault.TheVariants.{Memory, ReadFault, WriteFault, BadLine, LineLong, TooMuch}
 use Rattle.mm_play.specs.declared.player.LineRefusal.{LineRefusal}
 use Rattle.mm_play.specs.Play.{PlayOutcome, play_outcome, outcome_of_lines, outcome_of_input}
 use Rattle.mm_play.specs.Fronts.{IsFrontOf}

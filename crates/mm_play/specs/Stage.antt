@@ -2,7 +2,7 @@
 -- until one is too many.
 use Rattle.std.specs.Prelude.{◌≡◌, ℕ, ◌+◌, ◌-◌, ◌^◌, min, Bool, ◌||◌, nat_le, nat_lt, List, [], length, Option, None, Some, Result, Ok, Err}
 use Rattle.std.specs.Prelude.{◌⊎◌, if◌then◌else◌}
-use Rattle.mm_base.specs.Limits.{most_events}
+use Rattle.mm_bytes.specs.Limits.{most_events}
 use Rattle.mm_play.specs.HeadingStep.{HeadingStep, More, Begins}
 use Rattle.mm_play.specs.KeptBytes.{most_kept_bytes}
 use Rattle.mm_play.specs.declared.player.LineRefusal.{LineRefusal}

@@ -1,8 +1,8 @@
 -- What is out, as a whole and not line by line: which lines were answered, by how a call ended.
 use Rattle.std.specs.Prelude.{◌≡◌, ℕ, ◌+◌, List, ◌∷◌, ◌++◌, length, Option, Some, Result, Ok, Err, ◌⊎◌}
-use Rattle.mm_lines.specs.Input.{lines_of}
-use Rattle.mm_lines.specs.declared.replay_fault.ReplayFault.{ReplayFault}
-use Rattle.mm_lines.specs.declared.replay_fault.ReplayFault.TheVariants.{Memory, ReadFault, WriteFault, BadLine, LineLong, TooMuch}
+use Rattle.mm_base.specs.Input.{lines_of}
+use Rattle.mm_base.specs.declared.replay_fault.ReplayFault.{ReplayFault}
+use Rattle.mm_base.specs.declared.replay_fault.ReplayFault.TheVariants.{Memory, ReadFault, WriteFault, BadLine, LineLong, TooMuch}
 use Rattle.mm_play.specs.declared.player.LineRefusal.{LineRefusal}
 use Rattle.mm_play.specs.declared.player.LineRefusal.TheVariants.{Much}
 use Rattle.mm_play.specs.Play.{play_outcome, outcome_of_lines}

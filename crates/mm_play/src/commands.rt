@@ -10,7 +10,7 @@ ghost use Rattle.mm_play.specs.PutReply.{PutsReply};
 use crate::player::{Player, ReplyFault};
 use crate::progress::Progress;
 use crate::stage::{Heading, PlayStage};
-use mm_base::{Bytes, Memory};
+use mm_bytes::{Bytes, Memory};
 use std::alloc::Global;
 use std::marker::Model;
 

@@ -2,17 +2,17 @@
 
 ghost use Rattle.std.specs.Prelude.{◌≡◌, ◌+◌, ◌≤◌, ◌<◌, ℕ, List, false, [], length, OnOk};
 ghost use Rattle.std.specs.Io.KnownBytes.{Appends, IsAtEnd};
-ghost use Rattle.mm_base.specs.Faults.{CountsFaults};
-ghost use Rattle.mm_lines.specs.Input.{IsUnbroken};
-ghost use Rattle.mm_lines.specs.Streams.{SinkSends};
-ghost use Rattle.mm_base.specs.Limits.{longest_line};
+ghost use Rattle.mm_bytes.specs.Faults.{CountsFaults};
+ghost use Rattle.mm_base.specs.Input.{IsUnbroken};
+ghost use Rattle.mm_base.specs.Streams.{SinkSends};
+ghost use Rattle.mm_bytes.specs.Limits.{longest_line};
 ghost use Rattle.mm_play.specs.LineTurn.{TurnAdvances, PlayerAnswers, EndsInput, SendsDue, SendsAndAnswers, PlaysNext};
 ghost use Rattle.mm_play.specs.PlaysInput.{PlaysInput, IsBlamed, is_read_fault, is_write_fault};
 ghost use Rattle.mm_play.specs.StreamStanding.{stream_standing};
 
 use crate::player::{LineRefusal, Player, ReplyFault};
-use mm_base::{Bytes, LONGEST_LINE, WriteFault};
-use mm_lines::{LineFault, LineReader, Read, ReplayFault, Sink, Source, write_all};
+use mm_base::{LineFault, LineReader, Read, ReplayFault, Sink, Source, write_all};
+use mm_bytes::{Bytes, LONGEST_LINE, WriteFault};
 use std::alloc::Global;
 use std::marker::Model;
 

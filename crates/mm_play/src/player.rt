@@ -1,13 +1,13 @@
 //! Who answers the lines of an input.
 
 ghost use Rattle.std.specs.Prelude.{◌≡◌, ◌≤◌, ◌<◌, ◌^◌, ◌++◌, ℕ, List, Option, Result, Ok, length, IfOk, IfErr, OnOk};
-ghost use Rattle.mm_base.specs.Limits.{longest_line};
+ghost use Rattle.mm_bytes.specs.Limits.{longest_line};
 ghost use Rattle.mm_play.specs.declared.player.LineRefusal.{LineRefusal};
 ghost use Rattle.mm_play.specs.declared.player.ReplyFault.TheVariants.{Memory as memory};
 ghost use Rattle.mm_play.specs.Fronts.{GivesReply};
 ghost use Rattle.mm_play.specs.PutReply.{PutsReply};
 
-use mm_base::{Bytes, Memory};
+use mm_bytes::{Bytes, Memory};
 use std::alloc::Global;
 
 /// Why a player refuses a line.

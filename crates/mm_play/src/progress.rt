@@ -1,13 +1,13 @@
 //! A command among its events, and the limits of them.
 
 ghost use Rattle.std.specs.Prelude.{◌≡◌, ◌+◌, ◌≤◌, ◌<◌, ℕ, List, false, length};
-ghost use Rattle.mm_base.specs.Limits.{longest_line};
+ghost use Rattle.mm_bytes.specs.Limits.{longest_line};
 ghost use Rattle.mm_play.specs.KeptBytes.{most_kept_bytes};
 ghost use Rattle.mm_play.specs.PutReply.{PutsReply};
 
 use crate::player::{LineRefusal, ReplyFault};
 use crate::stage::PlayStage;
-use mm_base::{Bytes, MOST_EVENTS};
+use mm_bytes::{Bytes, MOST_EVENTS};
 use std::alloc::Global;
 
 /// The most bytes of event lines, and of what is issued for them, together.

@@ -1,14 +1,14 @@
 //! What a command does with its lines: those of its heading, and then an event in each.
 
 ghost use Rattle.std.specs.Prelude.{◌≡◌, ◌+◌, ◌≤◌, ◌<◌, ◌^◌, ℕ, List, Option, Some, is_some, length, IfOk};
-ghost use Rattle.mm_base.specs.Limits.{longest_line, most_events};
+ghost use Rattle.mm_bytes.specs.Limits.{longest_line, most_events};
 ghost use Rattle.mm_play.specs.HeadingStep.{More};
 ghost use Rattle.mm_play.specs.KeptBytes.{most_kept_bytes};
 ghost use Rattle.mm_play.specs.PutReply.{PutsReply};
 ghost use Rattle.mm_play.specs.Stage.{EventStage, HeadStage, StageAnswersEvent, TakesHead, number_in_64_bits};
 
 use crate::player::{ReplyFault, put};
-use mm_base::{Bytes, Memory};
+use mm_bytes::{Bytes, Memory};
 use std::alloc::Global;
 
 /// What stands among events, and plays them one after another.

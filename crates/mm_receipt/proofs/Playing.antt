@@ -2,7 +2,7 @@
 use Rattle.mm_receipt.proofs.Below.{◌≡◌, ◌∙◌, ℕ, List, ◌++◌, Option, Some, None, Result, Ok, Err, ap, LineRefusal, plays_err, tells}
 use Rattle.mm_receipt.proofs.Below.{AskedRequest, CheckTally, CheckState, second_answer, reply_of_second, receipts_answer, receipts_closing}
 use Rattle.mm_receipt.proofs.Below.{closing_at, last_line, first_check}
-use Rattle.mm_lines.specs.declared.replay_fault.ReplayFault.{ReplayFault}
+use Rattle.mm_base.specs.declared.replay_fault.ReplayFault.{ReplayFault}
 use Rattle.mm_play.specs.declared.player.ReplyFault.{ReplyFault}
 use Rattle.mm_play.specs.declared.player.ReplyFault.TheVariants as fault
 use Rattle.mm_play.specs.PlaysInput.{PlaysInput}

@@ -8,8 +8,8 @@ use Rattle.std.specs.List.{position}
 use Rattle.std.specs.Map.{lookup}
 use Rattle.std.specs.Ordering.{nat_cmp}
 use Rattle.std.specs.Str.{bytes_eq}
-use Rattle.mm_base.specs.Decimals.{decimal_number}
-use Rattle.mm_base.specs.Limits.{last_position, longest_request}
+use Rattle.mm_bytes.specs.Decimals.{decimal_number}
+use Rattle.mm_bytes.specs.Limits.{last_position, longest_request}
 use Rattle.mm_module.specs.WordsWords.{is_space}
 use Rattle.mm_play.specs.declared.player.LineRefusal.{LineRefusal}
 use Rattle.mm_play.specs.declared.player.LineRefusal.TheVariants.{Bad, Much}

@@ -1,6 +1,6 @@
 -- A check of a whole input.
 use Rattle.std.specs.Prelude.{◌≡◌, ℕ, List, ◌++◌, Option, Result}
-use Rattle.mm_lines.specs.declared.replay_fault.ReplayFault.{ReplayFault}
+use Rattle.mm_base.specs.declared.replay_fault.ReplayFault.{ReplayFault}
 use Rattle.mm_play.specs.PlaysInput.{PlaysInput}
 use Rattle.mm_play.specs.TellsOutput.{AnswersAllLines, IsReported, RefusesMuch, TellsOutput}
 use Rattle.mm_play.specs.StreamStanding.{stream_standing}

@@ -1,6 +1,6 @@
 -- The tally of the code, as contracts see it.
 use Rattle.std.specs.Prelude.{◌≡◌, ◌≤◌, length, Option, Some, None, Result, Ok, Err}
-use Rattle.mm_base.specs.Limits.{longest_request}
+use Rattle.mm_bytes.specs.Limits.{longest_request}
 use Rattle.mm_play.specs.declared.player.LineRefusal.{LineRefusal}
 use Rattle.mm_play.specs.declared.player.ReplyFault.{ReplyFault}
 use Rattle.mm_play.specs.declared.player.ReplyFault.TheVariants as fault

@@ -1,6 +1,6 @@
 //! Pairs of lines: a request at a position, and the output that is said to be its receipt.
 
-use mm_base::Bytes;
+use mm_bytes::Bytes;
 
 /// The first line of a pair: a request of at most 4,096 bytes and its position.
 #[derive(Drop)]

@@ -2,13 +2,13 @@
 
 ghost use Rattle.std.specs.Prelude.{◌≡◌, ◌≤◌, ◌<◌, ◌+◌, ℕ, List, false, length, IfOk, IfSome, OnOk, option_map};
 ghost use Rattle.std.specs.List.{position};
-ghost use Rattle.mm_base.specs.Limits.{longest_line, longest_request};
+ghost use Rattle.mm_bytes.specs.Limits.{longest_line, longest_request};
 ghost use Rattle.mm_module.specs.WordsWords.{is_space};
 ghost use Rattle.mm_receipt.specs.ReceiptCheck.{pair_at, verdict_by_pair, most_pairs, most_read};
 
 use crate::pair::{AskedRequest, GoodPair, PairVerdict};
 use crate::text::text_of;
-use mm_base::{Bytes, LAST_POSITION, LONGEST_REQUEST, Memory, read_decimal};
+use mm_bytes::{Bytes, LAST_POSITION, LONGEST_REQUEST, Memory, read_decimal};
 use mm_play::{LineRefusal, ReplyFault};
 use mm_receipted::{NotReceipt, verify};
 use std::alloc::Global;

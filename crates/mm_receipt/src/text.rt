@@ -5,7 +5,7 @@ ghost use Rattle.std.specs.Fmt.{decimal};
 ghost use Rattle.mm_receipt.specs.ReceiptCheck.{verdict_text, last_line};
 
 use crate::pair::PairVerdict;
-use mm_base::{Bytes, Memory, put_decimal};
+use mm_bytes::{Bytes, Memory, put_decimal};
 use mm_schedule::put_end;
 use std::alloc::Global;
 

@@ -12,7 +12,7 @@ use Rattle.mm_play.specs.declared.player.ReplyFault.TheVariants as fault
 use Rattle.std.specs.Prelude.{Err, Ok, Result}
 use Rattle.mm_replay.proofs.Below.{◌*◌}
 use Rattle.std.proofs.Math.Nat.{min-eq_left}
-use Rattle.mm_base.specs.Limits.{most_events, most_members}
+use Rattle.mm_bytes.specs.Limits.{most_events, most_members}
 use Rattle.mm_call.specs.Courses.{moves_seen}
 use Rattle.mm_call.specs.WalkLaws.{seen_none}
 use Rattle.mm_outcome.specs.WorldState as held
@@ -64,23 +64,6 @@ keeps_still event old new events k w =
       one_each = omega (arith, ap (λ (x : List (List ℕ)). length x) s.issued, k.one_each);
       fits = omega (arith, s.count, k.fits);
     }
-
-pub event_wants : (old : ReplayState) (event : Event) (was now : WorldState) (events : ℕ) → replay_state_in was events ≡ old
-    → WorldLacksMemory event was now
-    → ReplayLacksMemory old event (replay_state_in now events)
-event_wants old event was now events view w =
-    subst (λ (r : ReplayState). ReplayLacksMemory r event (replay_state_in now events)) view (was, now, refl, w, refl)
-
--- what was done with the event of a line was done with the line
-pub line_played : (old new : ReplayState) (line : List ℕ) (event : Event) (result : Result (List ℕ) ReplyFault) → event_at line ≡ Some event
-    → StageAnswersEvent (ReplayLacksMemory old event new) (answer_by replay_steps old (Some event)) old new result
-    → StageAnswersEvent (EventLacksMemory replay_steps ReplayLacksMemory old line new) (answer_to replay_steps old line) old new result
-line_played old new line event (Ok reply) is h = ap (answer_by replay_steps old) is ∙ h
-line_played old new line event (Err fault.Memory) is (inl same) = inl same
-line_played old new line event (Err fault.Memory) is (inr (inl w)) = inr (inl (event, is, w))
-line_played old new line event (Err fault.Memory) is (inr (inr h)) = inr (inr (h.0, ap (answer_by replay_steps old) is ∙ h.1))
-line_played old new line event (Err (fault.Refused Bad)) is h = (ap (answer_by replay_steps old) is ∙ h.0, h.1)
-line_played old new line event (Err (fault.Refused Much)) is h = h
 
 -- an event was followed: no more was committed and issued than it can
 pub keeps_on : (old new : WorldState) (event : Event) (said : Reply) (r : ReplayState) (events : ℕ) → KeepsWorld old events

@@ -21,7 +21,8 @@ use Rattle.mm_outcome.specs.WorldState.{world_key, world_barrier}
 use Rattle.mm_outcome.specs.Laws.{SchedulesGoOn}
 use Rattle.mm_outcome.specs.OneRun.{IsOneRun, FrontsAreOneRun}
 use Rattle.mm_call.specs.Levels.{Level}
-use Rattle.mm_evidence.proofs.Above.{none_is_one, runs_until}
+use Rattle.mm_evidence.proofs.Above.{MeetsPremises, none_is_one, runs_decided, runs_until}
+use Rattle.mm_evidence.specs.Evidence.{HasEvidence}
 use Rattle.mm_evidence.specs.Laws.{IsDecidedRun}
 use Rattle.mm_call.specs.Standing.{instance_by}
 use Rattle.mm_replay.specs.Text.{text_of_replies}
@@ -79,7 +80,7 @@ by_digests_so law decided header events = record {
         (outcome_of_events i (digest_level i) it.state it.issued later).replies (ap (λ (f : RunOutcome Digests). f.replies) own.0)
         (one_each i (digest_level i) front (first_digests i) (first_snapshots i));
     none = promised_run header.variant header.«module» world_key world_barrier [] (run_result_by_digests header [])
-        (none_is_one (world_of header) known);
+        (none_is_one (world_of header));
     unless_evidence = λ front later is. elim (known front).decided [
       | inl p ↦
           let own = law header.variant (meaning_of header.«module») world_key world_barrier events front later is in
@@ -103,9 +104,11 @@ premises_give decided header events shown one front later is clear genuine = eli
 
 pub until_evidence : RunsAreDecided → OneRunUntilEvidence
 until_evidence decided header events shown one =
-    runs_until (world_of header) (decided header.variant (meaning_of header.«module») world_key world_barrier) events
-    (λ front. IsPromisedRun (world_of header) header.«module» front (shown front)) one.none
-    (premises_give decided header events shown one)
+    let i = world_of header in
+    runs_until (HasEvidence i) (MeetsPremises i)
+    (runs_decided i (decided header.variant (meaning_of header.«module») world_key world_barrier)) events
+    (λ front. IsPromisedRun i header.«module» front (shown front)) one.none
+    (λ front later is meets. premises_give decided header events shown one front later is meets.0 meets.1)
 
 pub replays_go_on : SchedulesGoOn → ReplaysGoOn
 replays_go_on law header events shown exact front rest is =

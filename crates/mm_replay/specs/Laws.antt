@@ -8,6 +8,7 @@ use Rattle.mm_outcome.specs.Folds.{RunOutcome, outcome_of_events, outcome_by_dig
 use Rattle.mm_outcome.specs.WorldState.{world_of}
 use Rattle.mm_outcome.specs.Laws.{outcome_joined_to}
 use Rattle.mm_outcome.specs.Premises.{IsClearRun, IsGenuineRun}
+use Rattle.mm_evidence.specs.Evidence.{HasEvidence}
 use Rattle.mm_evidence.specs.Laws.{RunsUntil}
 use Rattle.mm_replay.specs.Headline.{AreOneRun, IsByDigests, IsPromisedRun, RunResult, run_result_of}
 
@@ -25,7 +26,7 @@ abbrev pub OneRunUntilEvidence : Type 0
 OneRunUntilEvidence =
     (header : Header) (events : List Event) (shown : List Event → RunResult)
     → AreOneRun header events shown
-    → RunsUntil (world_of header) events
+    → RunsUntil (HasEvidence (world_of header)) events
     (λ front. IsPromisedRun (world_of header) header.«module» front (shown front))
 
 -- The whole replay is that of each first part of the events, and then of the rest.

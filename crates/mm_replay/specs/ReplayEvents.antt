@@ -1,6 +1,6 @@
 -- A replay among its events, as contracts see it.
 use Rattle.std.specs.Prelude.{◌≡◌, ◌≤◌, ◌+◌, ◌*◌, ℕ, length}
-use Rattle.mm_base.specs.Limits.{most_events, most_members}
+use Rattle.mm_bytes.specs.Limits.{most_events, most_members}
 use Rattle.mm_outcome.specs.WorldState.{WorldState, WorldLacksMemory}
 use Rattle.mm_schedule.specs.Events.{Event}
 use Rattle.mm_replay.specs.Schedule.{ReplayState}

@@ -1,6 +1,6 @@
 -- A replay of a whole schedule.
 use Rattle.std.specs.Prelude.{◌≡◌, ℕ, List, length, Option, Result}
-use Rattle.mm_lines.specs.declared.replay_fault.ReplayFault.{ReplayFault}
+use Rattle.mm_base.specs.declared.replay_fault.ReplayFault.{ReplayFault}
 use Rattle.mm_play.specs.PlaysEvents.{PlaysEvents}
 use Rattle.mm_play.specs.Stage.{AtHeading, InEvents}
 use Rattle.mm_play.specs.StreamStanding.{stream_standing}

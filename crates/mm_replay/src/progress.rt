@@ -1,11 +1,11 @@
 //! A replay whose events are values, within the limits of one whose events are lines.
 
 ghost use Rattle.std.specs.Prelude.{◌≡◌, ◌≤◌, ◌++◌, length, IfOk, OnOk};
-ghost use Rattle.mm_base.specs.Limits.{longest_line};
+ghost use Rattle.mm_bytes.specs.Limits.{longest_line};
 
 use crate::replaying::ScheduleReplay;
 use crate::report::Report;
-use mm_base::{Bytes, Memory};
+use mm_bytes::{Bytes, Memory};
 use mm_play::{LineRefusal, Progress as Events, ReplyFault};
 use mm_schedule::{Event, Header, Reply};
 use std::alloc::Global;

@@ -4,7 +4,7 @@ ghost use Rattle.std.specs.Prelude.{◌≡◌, ◌++◌, OnOk};
 ghost use Rattle.mm_schedule.specs.Replies.{IsPrintable};
 ghost use Rattle.mm_replay.specs.Text.{text_of_replies};
 
-use mm_base::{Bytes, Memory};
+use mm_bytes::{Bytes, Memory};
 use mm_schedule::{Reply, put_line, reply_lines};
 
 /// Puts the lines of a reply at the end.

@@ -1,11 +1,11 @@
 //! A replay among its events.
 
 ghost use Rattle.std.specs.Prelude.{◌≡◌, ◌<◌, ◌++◌, length, IfOk, OnErr, OnOk, Some};
-ghost use Rattle.mm_base.specs.Limits.{most_events};
+ghost use Rattle.mm_bytes.specs.Limits.{most_events};
 
 use crate::put::put_reply;
 use crate::report::Report;
-use mm_base::{Bytes, Memory};
+use mm_bytes::{Bytes, Memory};
 use mm_play::{LineRefusal, PlayStage, ReplyFault};
 use mm_schedule::{Event, Header, Meddles, Reply, event_in, put_end};
 use mm_world::{EventView, World, line_view, owned_view};

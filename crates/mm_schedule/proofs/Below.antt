@@ -15,7 +15,7 @@ pub use Rattle.std.proofs.lemmas.List.{length-append, take-append-drop}
 pub use Rattle.hex.specs.Hex.{decode_of, decode_sized, is_hex_digit}
 pub use Rattle.hex.specs.declared.error.FromHexError.{FromHexError}
 pub use Rattle.hex.proofs.HexLemmas.{decode_of-digits, decode_of-ok, decode_sized-ok, decode_sized-twice}
-pub use Rattle.mm_base.specs.DecimalLaws.{read_by_spelling, spelled_by_reading}
+pub use Rattle.mm_bytes.specs.DecimalLaws.{read_by_spelling, spelled_by_reading}
 pub use Rattle.mm_platform.specs.declared.plan.Meddle.{Meddle}
 pub use Rattle.mm_platform.specs.declared.plan.Stop.{Stop}
 pub use Rattle.mm_platform.specs.declared.plan.Stop.TheVariants.{Cut, Drop, Fail, Quiet}

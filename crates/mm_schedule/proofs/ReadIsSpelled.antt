@@ -5,7 +5,7 @@ use Rattle.mm_schedule.proofs.Below.{codes, nat_lt, ◌&&◌, ◌==◌, result_o
 use Rattle.mm_schedule.proofs.Below.{spelled_by_reading, One, Many, Meddle, Stop, Fail, Offer, Last, Event, Checkpoint, Power, SpellsBytes}
 use Rattle.mm_schedule.proofs.Below.{SpellsEvent, SpellsMeddles, SpellsNumber, SpellsOffer, SpellsPrefix, SpellsStep, SpellsStop}
 use Rattle.mm_schedule.proofs.Below.{SpellsValue, ask_call_text, rest_after_prefix, word_at}
-use Rattle.mm_base.specs.Decimals.{decimal_number}
+use Rattle.mm_bytes.specs.Decimals.{decimal_number}
 use Rattle.mm_schedule.specs.Grammar.{call_at, event_at, fail_stop_at, meddle_at, meddles_at, offer_at, prefixed_call_at, raw_offer_at}
 use Rattle.mm_schedule.specs.Grammar.{stop_at, stop_step_at}
 use Rattle.mm_schedule.specs.GrammarWords.{flip_at}

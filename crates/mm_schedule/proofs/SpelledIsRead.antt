@@ -12,7 +12,7 @@ use Rattle.std.proofs.lemmas.List.Elements.{All-head, All-tail}
 use Rattle.std.proofs.lemmas.Str.Parse.{numerals_by_value, tells_all_ascii_digits}
 use Rattle.std.specs.Char.{is_ascii_digit}
 use Rattle.std.specs.Fmt.{decimal}
-use Rattle.mm_base.specs.Decimals.{decimal_number}
+use Rattle.mm_bytes.specs.Decimals.{decimal_number}
 use Rattle.mm_schedule.specs.Grammar.{call_at, event_at, fail_stop_at, meddle_at, meddles_at, offer_at, prefixed_call_at, raw_offer_at}
 use Rattle.mm_schedule.specs.Grammar.{stop_at, stop_step_at}
 use Rattle.mm_schedule.specs.GrammarWords.{flip_at}

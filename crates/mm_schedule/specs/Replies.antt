@@ -1,7 +1,7 @@
 -- The lines that answer events.
 use Rattle.std.specs.Prelude.{ℕ, ◌+◌, Bool, List, [], ◌∷◌, ◌++◌, ◌≤◌, All, length, if◌then◌else◌, codes}
 use Rattle.std.specs.Fmt.{decimal}
-use Rattle.mm_base.specs.Limits.{last_position, longest_request}
+use Rattle.mm_bytes.specs.Limits.{last_position, longest_request}
 use Rattle.mm_schedule.specs.declared.reply.Cause.{Cause}
 use Rattle.mm_schedule.specs.declared.reply.Cause.TheVariants.{Long, Lost, Form, Kind, State, Tag, Stale, Full, Segment, Snapshot, Blank}
 use Rattle.mm_schedule.specs.declared.reply.Cause.TheVariants.{Cell}

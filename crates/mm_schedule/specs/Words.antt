@@ -5,7 +5,7 @@ use Rattle.std.specs.Result.{result_ok}
 use Rattle.std.specs.Str.{bytes_eq}
 use Rattle.std.specs.Borrow.{Bor}
 use Rattle.hex.specs.Hex.{decode_of}
-use Rattle.mm_base.specs.Decimals.{decimal_number}
+use Rattle.mm_bytes.specs.Decimals.{decimal_number}
 use Rattle.mm_module.specs.WordsWords.{is_space}
 
 -- one reading after another

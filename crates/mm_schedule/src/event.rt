@@ -2,7 +2,7 @@
 
 ghost use Rattle.std.specs.Prelude.{◌≡◌, ◌+◌, ◌<◌, ◌≤◌, [], ◌∷◌, ◌++◌};
 
-use mm_base::Bytes;
+use mm_bytes::Bytes;
 use mm_digest::{Digest, zero};
 use mm_platform::{Meddle, Stop};
 

@@ -1,6 +1,6 @@
 //! Why a line gave no event.
 
-use mm_base::Memory;
+use mm_bytes::Memory;
 use thiserror::Error;
 
 /// Why a line gave no event.

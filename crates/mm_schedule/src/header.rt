@@ -5,7 +5,7 @@ ghost use Rattle.mm_schedule.specs.Headers.{header_of_words, head_text, header_a
 ghost use Rattle.mm_schedule.specs.HeadersWords.{variant_at};
 
 use crate::words::{after, is_text, word_in};
-use mm_base::{Bytes, Memory};
+use mm_bytes::{Bytes, Memory};
 use mm_digest::Variant;
 use mm_listing::Listed;
 use mm_modules::{AnyModule, by_name};

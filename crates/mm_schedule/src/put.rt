@@ -7,7 +7,7 @@ ghost use Rattle.mm_schedule.specs.RepliesWords.{told_line};
 
 use crate::print::{output_at, told_word};
 use crate::reply::{Reply, Way};
-use mm_base::{Bytes, Memory, put_numbered};
+use mm_bytes::{Bytes, Memory, put_numbered};
 
 /// Puts one line of a reply with its LF at the end.
 #[inline(always)]

@@ -13,7 +13,7 @@ ghost use Rattle.mm_schedule.specs.Words.{bytes_at};
 use crate::event::{Event, Meddles, Offer};
 use crate::fault::EventFault;
 use crate::words::{after, is_text, number_in, spells_bytes, step_in, value_in, word_in};
-use mm_base::{Bytes, Memory};
+use mm_bytes::{Bytes, Memory};
 use mm_digest::Digest;
 use mm_platform::{Meddle, Stop};
 use std::alloc::Global;

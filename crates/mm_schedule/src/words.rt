@@ -8,7 +8,7 @@ ghost use Rattle.hex.specs.Hex.{is_hex_digit};
 ghost use Rattle.mm_module.specs.Values.{value_at};
 ghost use Rattle.mm_schedule.specs.Words.{rest_after_prefix, bytes_at, parts_in_place, number_at, step_at, word_at};
 
-use mm_base::read_decimal;
+use mm_bytes::read_decimal;
 use mm_digest::Digest;
 use mm_module::space_in;
 

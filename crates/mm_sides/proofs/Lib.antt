@@ -15,5 +15,7 @@ mod Agreeing
 mod BothAgree
 mod SideNames
 mod SideIssues
+mod OwnNames
 mod OneMove
 mod Breaking
+mod PairFronts

@@ -227,7 +227,7 @@ module _ (variant : Variant) (meaning : Meaning) (key key' barrier : List ℕ) w
       (finding_fits list_mover pair me notes l command ours)
 
 module _ (pair : Pair) where
-  event_issues : (l : BothSides History History) (notes : MoveNotes) (which : SideName) (act : BothAct)
+  pub event_issues : (l : BothSides History History) (notes : MoveNotes) (which : SideName) (act : BothAct)
       → Issues (instance_on pair First) (instance_on pair Second) l notes
       → (let o : BothOutcome History History = both_outcome list_mover pair l (record { which = which; act = act }) in
       IsNew notes o.effect → IsOursIn pair l.tickets notes act → Issues (instance_on pair First) (instance_on pair Second) o.both
@@ -252,8 +252,9 @@ module _ (pair : Pair) where
       let o : BothOutcome History History = both_outcome list_mover pair l event in
       issues_from events o.both (notes_with_effect_if o.effect notes) (event_issues l notes event.which event.act k fresh.0 fresh.1) fresh.2
 
-pub sides_issue_names : SidesIssueNames
-sides_issue_names pair events fresh =
+-- the first moment
+pub first_issues : (pair : Pair) → Issues (instance_on pair First) (instance_on pair Second) (first_both_by_lists pair) no_notes
+first_issues pair =
     let i : Instance = instance_on pair First in
     let sound = first_sound_in pair.variant pair.meaning pair.first_key pair.barrier in
     let own : IsIssued i first_history (sealed_snapshot_of i.key (content_of_issue i first_history)) = record {
@@ -262,7 +263,7 @@ sides_issue_names pair events fresh =
       names = issued_here pair.variant pair.meaning pair.first_key pair.barrier first_history sound
           (first_lives pair.variant pair.meaning pair.first_key pair.barrier);
     } in
-    issues_from pair events (first_both_by_lists pair) no_notes (record {
+    record {
       order = roles_begin;
       sound = sound;
       this_here = (own, tt);
@@ -270,4 +271,7 @@ sides_issue_names pair events fresh =
       other_here = tt;
       other_now = tt;
       rests = λ gone left. not_dead gone;
-    }) fresh
+    }
+
+pub sides_issue_names : SidesIssueNames
+sides_issue_names pair events fresh = issues_from pair events (first_both_by_lists pair) no_notes (first_issues pair) fresh

@@ -44,3 +44,4 @@ pub use Rattle.mm_outcome.specs.EventOffers.{offered_bytes}
 pub use Rattle.mm_outcome.specs.Premises.{IsGenuineEvent, batches_of, event_messages, event_foreign_values, moves_of, AreApartIn}
 pub use Rattle.mm_outcome.specs.Premises.{IsGenuineOffer}
 pub use Rattle.mm_evidence.specs.Evidence.{HasClash, IsForged}
+pub use Rattle.mm_evidence.specs.Laws.{IsFrontWithoutEvidence, IsLongest}

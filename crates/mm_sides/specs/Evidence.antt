@@ -2,7 +2,7 @@
 use Rattle.std.specs.Prelude.{◌≡◌, ◌⊎◌, ℕ, List, [], ◌∷◌, ◌++◌, Some, Ok}
 use Rattle.std.specs.List.{Contains}
 use Rattle.mm_sides.specs.Below.{Meddle, Stop, Offer, Batch, History, TicketContent, Ask, offered_bytes}
-use Rattle.mm_sides.specs.Below.{HasClash, IsForged}
+use Rattle.mm_sides.specs.Below.{HasClash, IsForged, IsFrontWithoutEvidence, IsLongest}
 use Rattle.mm_sides.specs.Roles.{Live, Retired, Invites, MoveNotes, no_notes}
 use Rattle.mm_sides.specs.BothSides.{First, Pair, instance_on, BothSides, sides_seen_from, history_now, list_mover, first_both_by_lists}
 use Rattle.mm_sides.specs.Moves.{Retire, Accept, ticket_in}
@@ -54,12 +54,24 @@ pub data HasPairEvidence (pair : Pair) (events : List BothEvent) : Type 0 where
       (notes_after pair (first_both_by_lists pair) no_notes before) event
       → HasPairEvidence pair events
 
+-- what is asked of a run of both sides
+abbrev pub MeetsPairPremises : Pair → List BothEvent → Type 0
+MeetsPairPremises pair events =
+    IsClearPair pair events × IsGenuinePair pair events × IsFreshPair pair events
+
 -- A run of both sides meets the premises, or gives evidence; and never both.
 pub record IsDecidedPair (pair : Pair) (events : List BothEvent) : Type 0 where
-  pub decided : (IsClearPair pair events × IsGenuinePair pair events × IsFreshPair pair events)
-      ⊎ HasPairEvidence pair events
+  pub decided : MeetsPairPremises pair events ⊎ HasPairEvidence pair events
   pub apart : IsClearPair pair events → IsGenuinePair pair events → IsFreshPair pair events
       → HasPairEvidence pair events → ⊥
 
 abbrev pub PairsAreDecided : Type 0
 PairsAreDecided = (pair : Pair) (events : List BothEvent) → IsDecidedPair pair events
+
+-- The events before the first one that gives evidence are the longest first part that meets the
+-- premises.
+abbrev pub PairFrontsAreLongest : Type 0
+PairFrontsAreLongest =
+    (pair : Pair) (events front : List BothEvent)
+    → IsFrontWithoutEvidence (HasPairEvidence pair) events front
+    → IsLongest (HasPairEvidence pair) (MeetsPairPremises pair) events front

@@ -5,5 +5,6 @@ pub mod BothSides
 pub mod Moves
 pub mod Folds
 pub mod Premises
+pub mod OwnPremise
 pub mod Laws
 pub mod Evidence

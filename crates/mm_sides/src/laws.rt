@@ -1,7 +1,8 @@
 //! The laws of two sides, each the contract of a function that does nothing.
 
 ghost use Rattle.mm_sides.specs.Order.{RolesBegin, RolesSwap, RolesGoOn, RolesEnterLast, RolesAreOne};
-ghost use Rattle.mm_sides.specs.Evidence.{PairsAreDecided};
+ghost use Rattle.mm_sides.specs.Evidence.{PairsAreDecided, PairFrontsAreLongest};
+ghost use Rattle.mm_sides.specs.OwnPremise.{OwnPremiseGivesPremise};
 ghost use Rattle.mm_sides.specs.Laws.{PairsAgreeThroughout, OneIsLive, SidesRunAsOne, PairsGoOn, SidesIssueNames, PremisesAreMet};
 
 use mm_history::names_are_decided;
@@ -49,6 +50,12 @@ pub fn sides_issue_names()
     ensures { SidesIssueNames }
 {}
 
+/// Where each right offer to a side names a position of the history that this side has, also where
+/// the module has left it, each names one of the one history, with fresh nonces and tickets.
+pub fn own_offers_are_genuine()
+    ensures { OwnPremiseGivesPremise }
+{}
+
 /// The premises can be met by a run in which the module moves: in both variants, under all keys, by
 /// a counter that leaves the first side and enters the second, where it is live then.
 pub fn a_move_meets_the_premises()
@@ -64,4 +71,12 @@ pub fn pairs_are_decided()
     ensures { PairsAreDecided }
 {
     names_are_decided();
+}
+
+/// The events before the first one at which one holds evidence in hand are the longest first part
+/// of a schedule of both sides that meets the premises.
+pub fn pair_fronts_are_longest()
+    ensures { PairFrontsAreLongest }
+{
+    pairs_are_decided();
 }

@@ -7,6 +7,7 @@
 mod laws;
 
 pub use laws::{
-    a_move_meets_the_premises, both_go_on, both_sides_agree, one_side_is_live, pairs_are_decided,
-    roles_stay_in_order, sides_issue_names, sides_run_as_one,
+    a_move_meets_the_premises, both_go_on, both_sides_agree, one_side_is_live,
+    own_offers_are_genuine, pair_fronts_are_longest, pairs_are_decided, roles_stay_in_order,
+    sides_issue_names, sides_run_as_one,
 };

@@ -10,7 +10,7 @@ pub use Rattle.std.proofs.lemmas.Bool.Decides.{nat_tests}
 pub use Rattle.std.proofs.lemmas.Grind.{flat_map-append}
 pub use Rattle.std.proofs.lemmas.List.{append_assoc, drop-set-lt, drop_more, length-take-le, map-append, take_more, take_more_set}
 pub use Rattle.std.proofs.lemmas.Option.{slice_get-get_or}
-pub use Rattle.mm_base.specs.Limits.{longest_line, most_events, most_members}
+pub use Rattle.mm_bytes.specs.Limits.{longest_line, most_events, most_members}
 pub use Rattle.mm_digest.specs.declared.variant.Variant.{Variant}
 pub use Rattle.mm_digest.specs.declared.variant.Variant.TheVariants.{Basic, Opt}
 pub use Rattle.mm_seal.specs.Cell.{cell_spelling}

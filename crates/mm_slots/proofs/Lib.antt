@@ -13,3 +13,4 @@ mod Totalling
 mod Progressing
 mod Growing
 mod Seeing
+mod UntilEvidence

@@ -2,7 +2,7 @@
 use Rattle.mm_slots.proofs.Below.{◌≡◌, [], ◌∷◌, Result, Ok, Err, IfOk, OnErr, ◌<◌, ◌^◌, refl, sym, subst, SlotAction, SlotReply, Parts, Row}
 use Rattle.mm_slots.proofs.Below.{row_after, Tenant, Loses, turn_by_action, slot_in, instance_in, row_in, PartsFit, SlotGoesOn, SlotTakes}
 use Rattle.mm_slots.proofs.Below.{SlotLosesPower, RowActs, RowLacksMemory, CanCount}
-use Rattle.mm_base.specs.declared.fault.Memory.{Memory}
+use Rattle.mm_bytes.specs.declared.fault.Memory.{Memory}
 
 -- the row of a slot that went on
 row_on : (old new : Parts) (s : Tenant) → SlotGoesOn old new → slot_in new ≡ s → row_in new ≡ record (row_in old) { slot = s }

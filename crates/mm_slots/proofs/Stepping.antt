@@ -7,7 +7,7 @@ use Rattle.mm_slots.proofs.Below.{closes_broken_off, AskInFlight, CheckpointInFl
 use Rattle.mm_slots.proofs.Below.{outcome_in, event_turn, turn_saying, tenant_with_flight, event_so_far, step_turn, event_by, stop_at}
 use Rattle.mm_slots.proofs.Below.{digests_in, slot_in, call_in, instance_in, PartsFit, SlotLacksMemory, SlotComesTo, parts_with_flight}
 use Rattle.mm_slots.proofs.Below.{flight_in, HasRegister, CallEndsIn, count_none, vec_capacity}
-use Rattle.mm_base.specs.declared.fault.Memory.{Memory}
+use Rattle.mm_bytes.specs.declared.fault.Memory.{Memory}
 use Rattle.mm_platform.specs.Steps.{fault_at}
 use Rattle.mm_model.specs.declared.answer.BatchAnswer.{BatchAnswer}
 use Rattle.mm_call.specs.CallOutcome.{reading_steps}

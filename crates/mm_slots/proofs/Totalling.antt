@@ -7,14 +7,6 @@ use Rattle.std.proofs.lemmas.List.Elements.{All-weaker}
 use Rattle.std.proofs.lemmas.List.Sums.{sum_by-le, sum_by_more}
 use Rattle.mm_slots.specs.WholeSlots.{committed_count_in, issued_count_in}
 
--- one more of them
-pub sum_on : (f : Row → ℕ) (rows : List Row) (n : ℕ) (d row : Row) (before one after : ℕ) → n < length rows → row ≡ get_or rows n d
-    → before ≡ within_64 (sum_by f (take n rows)) → one ≡ within_64 (f row) → after ≡ within_64 (before + one)
-    → after ≡ within_64 (sum_by f (take (n + 1) rows))
-sum_on f rows n d row before one after few is had counts sums =
-    let same : f row ≡ f (get_or rows n d) = ap f is in
-    omega (arith, same, had, counts, sums, sum_by_more f rows n d few)
-
 pub requests_few : (rows : List Row) → All (IsWithin most_events) rows → committed_count_in rows
     ≤ length rows * (most_members * most_events)
 requests_few rows all = sum_by-le (λ (row : Row). row.slot.digests.count) (most_members * most_events) rows

@@ -10,6 +10,9 @@ use Rattle.mm_digest.specs.declared.variant.Variant.{Variant}
 use Rattle.mm_module.specs.Meaning.{Meaning}
 use Rattle.mm_outcome.specs.OneRun.{IsOneRun}
 use Rattle.mm_outcome.specs.Premises.{IsClearRun, IsGenuineRun}
+use Rattle.mm_evidence.specs.Evidence.{HasEvidence}
+use Rattle.mm_evidence.specs.Laws.{IsFrontWithoutEvidence, IsLongest, RunsUntil}
+use Rattle.mm_schedule.specs.Events.{Event}
 use Rattle.mm_slots.specs.declared.event.SlotEvent.{SlotEvent}
 use Rattle.mm_slots.specs.declared.said.SlotReply.{SlotReply}
 use Rattle.mm_slots.specs.declared.said.SlotReply.TheVariants.{Replied}
@@ -58,6 +61,40 @@ PremisesGiveSlotRuns =
     let it = tenant_turn header number (slot_meetings number (first_rows headers) front) in
     IsClearRun (tenant_instance header number) it.events
     → IsGenuineRun (tenant_instance header number) it.events → IsRunOfSlot number header it
+
+-- what a slot comes to that meets these events from the start, by the headers of all slots
+abbrev pub slot_turn_in : List Header → ℕ → Header → List SlotEvent → SlotTurn
+slot_turn_in headers number header events =
+    tenant_turn header number (slot_meetings number (first_rows headers) events)
+
+-- The calls of a slot that are over give evidence; or they meet what is asked of a run.
+abbrev pub HasSlotEvidence : List Header → ℕ → Header → List SlotEvent → Type 0
+HasSlotEvidence headers number header events =
+    HasEvidence (tenant_instance header number) (slot_turn_in headers number header events).events
+
+abbrev pub MeetsSlotPremises : List Header → ℕ → Header → List SlotEvent → Type 0
+MeetsSlotPremises headers number header events =
+    let over : List Event = (slot_turn_in headers number header events).events in
+    IsClearRun (tenant_instance header number) over
+    × IsGenuineRun (tenant_instance header number) over
+
+-- And so it does of each slot up to the first event at which that slot's calls give evidence.
+abbrev pub OneRunOfSlotUntilEvidence : Type 0
+OneRunOfSlotUntilEvidence =
+    (headers : List Header) (events : List SlotEvent)
+    (shown : List SlotEvent → List SlotAnswer × List Row) → AreSlotRuns headers events shown
+    → (number : ℕ) (header : Header) → slice_get headers number ≡ Some header
+    → RunsUntil (HasSlotEvidence headers number header) events
+    (λ front. IsRunOfSlot number header (slot_turn_in headers number header front))
+
+-- The events before that one are the longest first part in which the slot's calls meet what is
+-- asked.
+abbrev pub SlotFrontsAreLongest : Type 0
+SlotFrontsAreLongest =
+    (headers : List Header) (number : ℕ) (header : Header) (events front : List SlotEvent)
+    → IsFrontWithoutEvidence (HasSlotEvidence headers number header) events front
+    → IsLongest (HasSlotEvidence headers number header) (MeetsSlotPremises headers number header)
+    events front
 
 -- All that is shown is that of each first part of the events, and then of the rest.
 abbrev pub SlotsGoOn : Type 0

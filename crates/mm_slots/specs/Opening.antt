@@ -1,6 +1,6 @@
 -- The lines before the events of slots, as contracts see them.
 use Rattle.std.specs.Prelude.{◌≡◌, ℕ, true, false, List, Option, None, Some, Result, Ok, Err}
-use Rattle.mm_base.specs.declared.fault.Memory.{Memory}
+use Rattle.mm_bytes.specs.declared.fault.Memory.{Memory}
 use Rattle.mm_schedule.specs.declared.header.Header.{Header}
 use Rattle.mm_slots.specs.Stage.{OpeningStage, AtFirst, AtHeads, SlotsState, are_to_come, first_slots_state}
 use Rattle.mm_slots.specs.declared.heads.Heads.{Heads}

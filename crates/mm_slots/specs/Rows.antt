@@ -1,7 +1,7 @@
 -- What becomes of the slots of a platform, or of one of them.
 use Rattle.std.specs.Prelude.{◌≡◌, ◌≤◌, ◌<◌, ◌+◌, ◌*◌, ◌==◌, ◌^◌, ℕ, List, [], ◌∷◌, length, if◌then◌else◌}
 use Rattle.std.specs.List.{All}
-use Rattle.mm_base.specs.Limits.{most_events, most_members}
+use Rattle.mm_bytes.specs.Limits.{most_events, most_members}
 use Rattle.mm_slots.specs.declared.event.SlotAction.{SlotAction}
 use Rattle.mm_slots.specs.declared.event.SlotEvent.{SlotEvent}
 use Rattle.mm_slots.specs.declared.event.SlotEvent.TheVariants.{Power, At}

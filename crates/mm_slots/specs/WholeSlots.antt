@@ -1,7 +1,7 @@
 -- A run of slots, whole, and what it reports.
 use Rattle.std.specs.Prelude.{◌≡◌, ℕ, List, length, Option, Result}
 use Rattle.std.specs.List.{sum_by}
-use Rattle.mm_lines.specs.declared.replay_fault.ReplayFault.{ReplayFault}
+use Rattle.mm_base.specs.declared.replay_fault.ReplayFault.{ReplayFault}
 use Rattle.mm_play.specs.PlaysEvents.{PlaysEvents}
 use Rattle.mm_play.specs.Stage.{AtHeading, InEvents}
 use Rattle.mm_play.specs.StreamStanding.{stream_standing}

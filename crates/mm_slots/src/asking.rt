@@ -8,7 +8,7 @@ use crate::flight::{AskInFlight, AskedRequest, Flight};
 use crate::parts::{Parts, stop_at};
 use crate::said::SlotReply;
 use mm_ask::Ask;
-use mm_base::{Bytes, Memory};
+use mm_bytes::{Bytes, Memory};
 use mm_machine::{OpCall, Operation};
 use mm_model::is_long;
 use mm_module::Batch;

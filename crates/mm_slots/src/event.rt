@@ -1,7 +1,7 @@
 //! The events of slots.
 
 use crate::slot_number::SlotNumber;
-use mm_base::Bytes;
+use mm_bytes::Bytes;
 use mm_digest::Digest;
 use mm_schedule::Offer;
 

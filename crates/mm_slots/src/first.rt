@@ -5,7 +5,7 @@ ghost use Rattle.mm_slots.specs.Table.{first_row, first_rows};
 
 use crate::slot_number::SlotNumber;
 use crate::tenant::Tenant;
-use mm_base::Memory;
+use mm_bytes::Memory;
 use mm_schedule::Header;
 use std::alloc::Global;
 

@@ -1,6 +1,6 @@
 //! Calls in flight.
 
-use mm_base::Bytes;
+use mm_bytes::Bytes;
 use mm_machine::OpCall;
 use mm_model::BatchAnswer;
 use mm_opt::Checkpointed;

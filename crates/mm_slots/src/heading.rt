@@ -8,7 +8,7 @@ ghost use Rattle.mm_slots.specs.Stage.{AtFirst, AtHeads, slots_heads};
 use crate::heads::Heads;
 use crate::read::read_first;
 use crate::stage::SlotsStage;
-use mm_base::Memory;
+use mm_bytes::Memory;
 use mm_play::{LineRefusal, ReplyFault};
 use mm_schedule::{Header, read_head};
 use std::alloc::Global;

@@ -3,7 +3,7 @@
 
 use crate::parts::Parts;
 use crate::said::SlotReply;
-use mm_base::Memory;
+use mm_bytes::Memory;
 use mm_digest::Digest;
 use mm_schedule::Reply;
 

@@ -7,7 +7,7 @@ use crate::event::{CallBreak, SlotAction};
 use crate::flight::Flight;
 use crate::said::SlotReply;
 use crate::slot_number::SlotNumber;
-use mm_base::Memory;
+use mm_bytes::Memory;
 use mm_digest::Digest;
 use mm_platform::Stop;
 use mm_world::{CallReport, Seat};

@@ -1,6 +1,6 @@
 //! A platform in memory with up to 16 slots.
 
-use mm_base::{CELL_LENGTH, Memory};
+use mm_bytes::{CELL_LENGTH, Memory};
 use mm_digest::Digest;
 use mm_platform::{Device, MemPlatform, Nv, Platform, Register, StepFault};
 use std::alloc::Global;

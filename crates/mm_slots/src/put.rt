@@ -6,7 +6,7 @@ ghost use Rattle.mm_slots.specs.Table.{PowerLost, Says};
 
 use crate::said::SlotReply;
 use crate::slot_number::SlotNumber;
-use mm_base::{Bytes, Memory, put_numbered};
+use mm_bytes::{Bytes, Memory, put_numbered};
 use mm_replay::put_reply;
 
 /// Puts what is said at the end, with its LF.

@@ -7,7 +7,7 @@ ghost use Rattle.mm_slots.specs.Texts as texts;
 
 use crate::event::{CallBreak, SlotAction, SlotEvent};
 use crate::slot_number::SlotNumber;
-use mm_base::{Bytes, Memory};
+use mm_bytes::{Bytes, Memory};
 use mm_digest::Digest;
 use mm_schedule::{
     EventFault, OfferText, after, is_text, number_in, offer_in, owned_offer, value_in, word_in,

@@ -13,7 +13,7 @@ use crate::put::{put_answer, put_power};
 use crate::said::SlotReply;
 use crate::slot_number::SlotNumber;
 use crate::tenant::Tenant;
-use mm_base::{Bytes, Memory};
+use mm_bytes::{Bytes, Memory};
 use std::alloc::Global;
 
 // Lets something happen in the slot with this number. The others are as they were.

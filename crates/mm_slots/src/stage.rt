@@ -1,7 +1,7 @@
 //! Slots among their events.
 
 ghost use Rattle.std.specs.Prelude.{◌≡◌, ◌≤◌, ◌<◌, ◌+◌, ◌++◌, ◌^◌, Some, Err, length, IfOk, OnErr, OnOk};
-ghost use Rattle.mm_base.specs.Limits.{longest_line, most_events};
+ghost use Rattle.mm_bytes.specs.Limits.{longest_line, most_events};
 
 use crate::event::SlotEvent;
 use crate::first::first_slots;
@@ -10,7 +10,7 @@ use crate::report::SlotReport;
 use crate::rows::follow;
 use crate::tenant::Tenant;
 use crate::totals::{bytes_in, put_ends, requests_in, snapshots_in};
-use mm_base::{Bytes, Memory};
+use mm_bytes::{Bytes, Memory};
 use mm_play::{LineRefusal, PlayStage, ReplyFault};
 use mm_schedule::{EventFault, Header};
 use std::alloc::Global;

@@ -8,7 +8,7 @@ use crate::parts::Parts;
 use crate::said::SlotReply;
 use crate::slot_number::SlotNumber;
 use mm_ask::Secrets;
-use mm_base::Memory;
+use mm_bytes::Memory;
 use mm_digest::zero;
 use mm_outcome::rising;
 use mm_schedule::Header;

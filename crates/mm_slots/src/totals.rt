@@ -11,7 +11,7 @@ ghost use Rattle.mm_slots.specs.Stage.{kept_bytes_in};
 use crate::put::put_slot_end;
 use crate::slot_number::SlotNumber;
 use crate::tenant::Tenant;
-use mm_base::{Bytes, Memory};
+use mm_bytes::{Bytes, Memory};
 
 /// The bytes of the snapshots issued in these slots, or the most that 64 bits tell.
 pub fn bytes_in(slots: &[Tenant]) -> u64

@@ -10,8 +10,8 @@ use crate::laws::slots_run;
 use crate::opening::SlotsHeading;
 use crate::report::SlotReport;
 use crate::stage::SlotsStage;
+use mm_base::{ReplayFault, Sink, Source};
 use mm_evidence::premises_or_evidence;
-use mm_lines::{ReplayFault, Sink, Source};
 use mm_play::{LinePlayer, play};
 use std::alloc::Global;
 

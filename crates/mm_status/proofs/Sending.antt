@@ -1,7 +1,7 @@
 -- Writes that go out one after another.
 use Rattle.mm_status.proofs.Below.{◌≡◌, ◌∙◌, ℕ, List, [], ◌++◌, Option, Result, Ok, Err, sym, ap, append_assoc, append-nil, subst, OnOk}
 use Rattle.mm_status.proofs.Below.{Appends, Appends-trans, SinkSends}
-use Rattle.mm_base.specs.declared.fault.WriteFault.{WriteFault}
+use Rattle.mm_bytes.specs.declared.fault.WriteFault.{WriteFault}
 
 -- what comes after a write that failed doesn't go out
 pub SinkSends-stopped : (a b : Option (List ℕ)) (first more : List ℕ) (result : Result (Unit {0}) WriteFault) (fault : WriteFault)

@@ -1,8 +1,8 @@
 -- What a command writes: its text, or the stop line of the status that it ended with.
 use Rattle.std.specs.Prelude.{◌≡◌, ℕ, List, Option, Result, Ok, Err}
-use Rattle.mm_base.specs.Faults.{CountsFaults}
-use Rattle.mm_lines.specs.Streams.{SinkSends}
-use Rattle.mm_base.specs.declared.fault.WriteFault as write
+use Rattle.mm_bytes.specs.Faults.{CountsFaults}
+use Rattle.mm_base.specs.Streams.{SinkSends}
+use Rattle.mm_bytes.specs.declared.fault.WriteFault as write
 use Rattle.mm_status.specs.Status.{stop_line}
 use Rattle.mm_status.specs.declared.status.Status.{Status}
 use Rattle.mm_status.specs.declared.status.Status.TheVariants.{Done, WriteFault}

@@ -1,8 +1,8 @@
 -- How the program ends, and what it writes last.
 use Rattle.std.specs.Prelude.{ℕ, List, [], ◌∷◌, ◌++◌, codes, Result, Ok, Err}
 use Rattle.std.specs.Fmt.{decimal}
-use Rattle.mm_lines.specs.declared.replay_fault.ReplayFault.{ReplayFault}
-use Rattle.mm_lines.specs.declared.replay_fault.ReplayFault.TheVariants as fault
+use Rattle.mm_base.specs.declared.replay_fault.ReplayFault.{ReplayFault}
+use Rattle.mm_base.specs.declared.replay_fault.ReplayFault.TheVariants as fault
 use Rattle.mm_status.specs.declared.status.Status.{Status}
 use Rattle.mm_status.specs.declared.status.Status.TheVariants.{Done, Usage, ReadFault, WriteFault, Memory, PlatformFault, StoreFault, Blank}
 use Rattle.mm_status.specs.declared.status.Status.TheVariants.{Already, Cell, Lost, Refused, BadLine, LineLong, TooMuch, Short, Kind}

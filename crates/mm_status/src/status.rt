@@ -1,6 +1,6 @@
 //! How the program ends.
 
-use mm_lines::ReplayFault;
+use mm_base::ReplayFault;
 use mm_model::Refusal;
 
 /// How the program ends. Lines are numbered from 1.

@@ -2,15 +2,15 @@
 
 ghost use Rattle.std.specs.Prelude.{◌≡◌, ◌++◌, ◌∷◌, []};
 ghost use Rattle.std.specs.Fmt.{decimal};
-ghost use Rattle.mm_base.specs.Faults.{CountsFaults};
-ghost use Rattle.mm_lines.specs.Streams.{SinkSends};
+ghost use Rattle.mm_bytes.specs.Faults.{CountsFaults};
+ghost use Rattle.mm_base.specs.Streams.{SinkSends};
 ghost use Rattle.mm_status.specs.Status.{HasFixedLine, stop_line};
 ghost use Rattle.mm_status.specs.declared.status.Status.TheVariants as ended;
 
 use crate::status::Status;
 use itoa::Buffer;
-use mm_base::WriteFault;
-use mm_lines::{Sink, write_all};
+use mm_base::{Sink, write_all};
+use mm_bytes::WriteFault;
 
 /// Writes the stop line of a status, where it has one.
 pub fn write_stop<K: Sink>(status: Status, out: &mut K) -> Result<(), WriteFault>

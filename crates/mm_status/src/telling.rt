@@ -7,7 +7,7 @@ ghost use Rattle.mm_status.specs.CommandOutput.{StopsAs, TellsStop, WritesText};
 
 use crate::status::Status;
 use crate::stop::write_stop;
-use mm_lines::{ReplayFault, Sink, write_all};
+use mm_base::{ReplayFault, Sink, write_all};
 
 /// Writes the stop line of a status.
 pub fn stopped<K: Sink>(status: Status, out: &mut K) -> Status

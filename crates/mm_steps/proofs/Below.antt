@@ -3,8 +3,8 @@ pub use Rattle.std.specs.Option.{option_map}
 pub use Rattle.std.specs.Prelude.{◌==◌, if◌then◌else◌, is_some, IsErr, MatchResult}
 pub use Rattle.std.proofs.Common.{◌&&◌, ◌+◌, ◌<◌, ◌∙◌, ◌≡◌, ◌≤◌, [], ap, arith, Bool, Err, false, List, None, not, Ok, Option, refl, Result}
 pub use Rattle.std.proofs.Common.{Some, subst, sym, true, ℕ}
-pub use Rattle.mm_base.specs.Faults.{next_count}
-pub use Rattle.mm_base.specs.declared.fault.Memory.{Memory}
+pub use Rattle.mm_bytes.specs.Faults.{next_count}
+pub use Rattle.mm_bytes.specs.declared.fault.Memory.{Memory}
 pub use Rattle.mm_digest.specs.declared.variant.Variant.{Variant}
 pub use Rattle.mm_platform.specs.Memory.{plan_with_meddle, plan_with_stop}
 pub use Rattle.mm_platform.specs.Standing.{next_step, Plan, Standing}

@@ -1,7 +1,7 @@
 -- A call in flight, by the digests at which it was begun, and what its next step comes to by its
 -- event.
 use Rattle.std.specs.Prelude.{◌≡◌, ℕ, ◌+◌, true, false, List, Result, Ok, Err}
-use Rattle.mm_base.specs.declared.fault.Memory.{Memory}
+use Rattle.mm_bytes.specs.declared.fault.Memory.{Memory}
 use Rattle.mm_digest.specs.declared.variant.Variant.{Variant}
 use Rattle.mm_platform.specs.declared.plan.Meddle.{Meddle}
 use Rattle.mm_platform.specs.declared.plan.Stop.{Stop}

@@ -1,7 +1,7 @@
 -- A call in flight over a platform in memory, whatever it asks: its next step, and a step that
 -- breaks it off.
 use Rattle.std.specs.Prelude.{◌≡◌, ℕ, ◌+◌, false, List, Result, Ok, Err}
-use Rattle.mm_base.specs.declared.fault.Memory.{Memory}
+use Rattle.mm_bytes.specs.declared.fault.Memory.{Memory}
 use Rattle.mm_platform.specs.declared.plan.Meddle.{Meddle}
 use Rattle.mm_platform.specs.declared.plan.Stop.{Stop}
 use Rattle.mm_platform.specs.Standing.{Plan, Standing}

@@ -4,7 +4,7 @@ ghost use Rattle.mm_machine.specs.OpSteps.{MayGoOn};
 ghost use Rattle.mm_steps.specs.FlightSteps.{FlightBreaksAs, MayStepOn, FlightStepsAs};
 ghost use Rattle.mm_steps.specs.FlightStop.{BreaksNext};
 
-use mm_base::Memory;
+use mm_bytes::Memory;
 use mm_machine::{OpCall, StepResult, advance, finish};
 use mm_platform::{MemPlatform, Stop};
 use mm_seal::KeptKey;

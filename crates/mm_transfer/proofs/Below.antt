@@ -5,7 +5,7 @@ pub use Rattle.std.specs.Str.{bytes_eq}
 pub use Rattle.std.proofs.Common.{◌++◌, ◌+◌, ◌<◌, ◌^◌, ◌∙◌, ◌∷◌, ◌≡◌, ◌≤◌, [], ap, append_assoc, arith, Bool, Err, false, get_or, inl, inr}
 pub use Rattle.std.proofs.Common.{IsErr, length, length-append, List, map, None, Ok, Option, refl, Result, Some, subst, sym, true, ℕ}
 pub use Rattle.std.proofs.lemmas.List.{append-nil}
-pub use Rattle.mm_base.specs.declared.fault.Memory.{Memory}
+pub use Rattle.mm_bytes.specs.declared.fault.Memory.{Memory}
 pub use Rattle.mm_digest.specs.Messages.{anchored_digest_of, start_digest_of, zero_bytes}
 pub use Rattle.mm_digest.specs.declared.variant.Variant.{Variant}
 pub use Rattle.mm_digest.specs.declared.variant.Variant.TheVariants.{Basic, Opt}

@@ -8,7 +8,7 @@ use Rattle.mm_transfer.proofs.Below.{register_reading, Reads, End, StepsWalk, wa
 use Rattle.mm_transfer.proofs.Below.{items_after_moves, plan_of, is_cut, SettlesPlan, IsQuiet, reads_none, power_if, stop_power, on_settled}
 use Rattle.mm_transfer.proofs.Below.{reads_shown, ReadyMove, MoveRefusal, stopped_moves, bytes_if_written, bytes_after_move}
 use Rattle.std.specs.Option.{option_map}
-use Rattle.mm_base.specs.Faults.{next_count}
+use Rattle.mm_bytes.specs.Faults.{next_count}
 use Rattle.mm_platform.specs.declared.fault.StepFault.TheVariants.{Failed}
 use Rattle.mm_platform.specs.declared.plan.Stop.TheVariants.{Quiet, Cut, Drop, Fail}
 use Rattle.mm_platform.specs.StandingWords.{due_values}

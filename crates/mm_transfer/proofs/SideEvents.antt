@@ -6,7 +6,7 @@ use Rattle.mm_transfer.proofs.Below.{Extend, IsPrintable, Offer, Reply, Outcome,
 use Rattle.mm_transfer.proofs.Below.{issues_one, Role, Live, SideName, Pair, key_of, instance_on, digest_mover, outcome_by_role}
 use Rattle.mm_transfer.proofs.Below.{commits_between, CodeSide, pair_of, role_in, at_in, side_in, refusal_for_role, IsQuiet, StandsAs}
 use Rattle.mm_transfer.proofs.Below.{FitsSide, SideComes, SideLacks}
-use Rattle.mm_base.specs.Limits.{most_members}
+use Rattle.mm_bytes.specs.Limits.{most_members}
 use Rattle.mm_modules.specs.ModulesLaws.{any_is_lawful}
 use Rattle.mm_world.specs.Seat.{SeatStaysOn, SeatLacksMemoryInVain}
 use Rattle.mm_world.specs.Seat as seat
@@ -103,7 +103,8 @@ comes_by which role event old new said is fits s bound digest f =
     let pair = pair_of old.seat.header in
     let i = instance_on pair which in
     vain_comes pair which old new _ said fits digest (event_vain i (at_in old) old.seat.issued.items (refusal_for_role role) event)
-    (f.vain i (at_in old) (fault_where role) (vain_reads pair which role old.seat.platform (at_in old) refl s fits.quiet))
+    (f.vain i (at_in old) (Err (fault_where role)) (refusal_for_role role)
+    (vain_reads pair which role old.seat.platform (at_in old) refl s fits.quiet) refl)
 
 -- want of memory
 
@@ -142,8 +143,8 @@ wanting_by which Live event old new memory s quiet f =
     f.own (key_of pair which) pair.barrier (at_in old) (stands_live pair which old.seat.platform (at_in old) s) quiet refl
 wanting_by which role event old new memory s quiet f =
     let pair = pair_of old.seat.header in
-    f.vain (instance_on pair which) (at_in old) (fault_where role)
-    (vain_reads pair which role old.seat.platform (at_in old) refl s quiet)
+    f.vain (instance_on pair which) (at_in old) (Err (fault_where role)) (refusal_for_role role)
+    (vain_reads pair which role old.seat.platform (at_in old) refl s quiet) refl
 
 module _ (pair : Pair) (which : SideName) (old new : CodeSide) (fits : FitsSide pair which old)
     (goes : (value : List ℕ) → Stays old.seat.platform new.seat.platform value → GoesReading pair which old new value) where

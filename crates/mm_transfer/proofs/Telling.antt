@@ -10,13 +10,15 @@ use Rattle.std.proofs.Common.{inl, inr}
 use Rattle.std.proofs.lemmas.List.{append-nil}
 use Rattle.mm_play.specs.StageShows.{state_behind_events, replies, StageShows}
 use Rattle.mm_schedule.specs.Machine.{IsEventRun}
-use Rattle.mm_sides.specs.Evidence.{PairsAreDecided}
+use Rattle.mm_evidence.proofs.Above.{runs_until}
+use Rattle.mm_sides.proofs.Above.{known_pairs}
+use Rattle.mm_sides.specs.Evidence.{HasPairEvidence, MeetsPairPremises, PairsAreDecided}
 use Rattle.mm_sides.specs.Laws.{both_outcome_joined, PairsGoOn}
 use Rattle.mm_sides.specs.Order.{AreNotBothLive}
 use Rattle.mm_sides.specs.Premises.{IsClearPair, IsGenuinePair, IsFreshPair}
 use Rattle.mm_transfer.specs.Answers.{answers_text}
 use Rattle.mm_transfer.specs.Headline.{AreOneTransfer, transfer_player}
-use Rattle.mm_transfer.specs.Laws.{PremisesGiveOneTransfer, TransfersGoOn}
+use Rattle.mm_transfer.specs.Laws.{OneTransferUntilEvidence, PremisesGiveOneTransfer, TransfersGoOn}
 use Rattle.mm_transfer.specs.Stage.{transfer_heads, transfer_stage}
 
 -- the laws of both sides
@@ -55,6 +57,7 @@ one_transfer laws header events clear genuine fresh =
       runs = ran;
       judged = a.replies;
       count = a.committed ∙ r.count;
+      shown = record { first = a.first.issued; second = a.second.issued; tickets = a.tickets };
       live = subst (λ (x : Role). AreNotBothLive it.both.first.role x) (sym a.second.role)
           (subst (λ (x : Role). AreNotBothLive x lists.both.second.role) (sym a.first.role) end);
       entered = one;
@@ -79,6 +82,27 @@ premises_give decided header events shown one front later is clear genuine fresh
   | inl run ↦ run
   | inr evidence ↦ absurd ((decided (pair_of header) front).apart clear genuine fresh evidence)
 ]
+
+-- no event at all is one transfer
+none_is_one : (header : Header) → IsOneTransfer header [] (shown_in header [])
+none_is_one header = record {
+  requests = [];
+  runs = refl;
+  judged = refl;
+  count = refl;
+  shown = record { first = refl; second = refl; tickets = refl };
+  live = λ is. refl;
+  entered = λ is. refl;
+  promised = promises-kept header.«module» [] [] [] refl;
+}
+
+pub until_evidence : PairsAreDecided → OneTransferUntilEvidence
+until_evidence decided header events shown one =
+    let pair = pair_of header in
+    runs_until (HasPairEvidence pair) (MeetsPairPremises pair) (known_pairs decided pair) events
+    (λ front. IsOneTransfer header front (shown front))
+    (subst (IsOneTransfer header []) (sym (one [] events refl).0) (none_is_one header))
+    (λ front later is meets. premises_give decided header events shown one front later is meets.0 meets.1 meets.2)
 
 pub transfers_go_on : PairsGoOn → TransfersGoOn
 transfers_go_on law header events shown one front rest is =

@@ -1,7 +1,7 @@
 -- The words that the definitions of this crate take from the crates below.
-pub use Rattle.mm_base.specs.Limits.{most_events, most_members}
-pub use Rattle.mm_base.specs.declared.fault.Memory.{Memory}
-pub use Rattle.mm_lines.specs.declared.replay_fault.ReplayFault.{ReplayFault}
+pub use Rattle.mm_bytes.specs.Limits.{most_events, most_members}
+pub use Rattle.mm_bytes.specs.declared.fault.Memory.{Memory}
+pub use Rattle.mm_base.specs.declared.replay_fault.ReplayFault.{ReplayFault}
 pub use Rattle.mm_digest.specs.declared.variant.Variant.{Variant}
 pub use Rattle.mm_digest.specs.declared.variant.Variant.TheVariants.{Basic, Opt}
 pub use Rattle.mm_seal.specs.Cell.{FitsVariant, blank_cell, cell_spelling}
@@ -13,6 +13,7 @@ pub use Rattle.mm_platform.specs.declared.plan.Stop.{Stop}
 pub use Rattle.mm_module.specs.Batch.{One}
 pub use Rattle.mm_module.specs.Values.{value_at}
 pub use Rattle.mm_modules.specs.Modules.{meaning_of}
+pub use Rattle.mm_model.specs.History.{History}
 pub use Rattle.mm_model.specs.Instance.{Instance}
 pub use Rattle.mm_model.specs.Moves.{Digests}
 pub use Rattle.mm_model.specs.PlacesWords.{digest_of}

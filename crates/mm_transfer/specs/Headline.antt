@@ -6,7 +6,7 @@ use Rattle.mm_play.specs.HeadingStep.{Begins}
 use Rattle.mm_play.specs.Headline.{EventPlayer}
 use Rattle.mm_transfer.specs.Below.{meaning_of, Digests, IsEventRun, ModulePromises, Header, first_both_by_lists, BothEvent, BothRunOutcome}
 use Rattle.mm_transfer.specs.Below.{both_outcome_by_lists, both_outcome_by_digests, IsOneLiveFrom, plain_events, plain_replies}
-use Rattle.mm_transfer.specs.Below.{AreNotBothLive, no_notes}
+use Rattle.mm_transfer.specs.Below.{AreNotBothLive, BothSides, History, no_notes}
 use Rattle.mm_sides.specs.Evidence.{HasPairEvidence}
 use Rattle.mm_transfer.specs.Answers.{answers_text, end_line}
 use Rattle.mm_transfer.specs.Grammar.{event_at, first_header_at}
@@ -27,11 +27,19 @@ transfer_player = record {
       + sum_by length shown.both.second.issued + sum_by length shown.both.tickets;
 }
 
+-- The snapshots that both sides issued, and the tickets handed out, are the same.
+pub record AreShownAs (both : BothSides Digests ℕ)
+    (expected : BothSides History History) : Type 0 where
+  pub first : both.first.issued ≡ expected.first.issued
+  pub second : both.second.issued ≡ expected.second.issued
+  pub tickets : both.tickets ≡ expected.tickets
+
 -- What the events come to on both sides, by digests: the replies to all of them are those of both
 -- sides by lists, as the verdict on the one history gives them; those to the calls of either side
--- are one run of the module on one list of requests; and so many requests were committed. At most
--- one side is live, and it was so at each moment; where none was, the module entered only by the
--- ticket that it left by last. And what the module promises of a run holds.
+-- are one run of the module on one list of requests; so many requests were committed, and the
+-- snapshots issued and the tickets are those that the verdict issues. At most one side is live, and
+-- it was so at each moment; where none was, the module entered only by the ticket that it left by
+-- last. And what the module promises of a run holds.
 pub record IsOneTransfer (header : Header) (events : List BothEvent)
     (it : BothRunOutcome Digests ℕ) : Type 0 where
   pub requests : List (List ℕ)
@@ -40,6 +48,7 @@ pub record IsOneTransfer (header : Header) (events : List BothEvent)
       requests
   pub judged : it.replies ≡ (both_outcome_by_lists (pair_of header) events).replies
   pub count : it.both.committed ≡ length requests
+  pub shown : AreShownAs it.both (both_outcome_by_lists (pair_of header) events).both
   pub live : AreNotBothLive it.both.first.role it.both.second.role
   pub entered : IsOneLiveFrom (pair_of header) (first_both_by_lists (pair_of header)) no_notes
       events

@@ -2,6 +2,8 @@
 use Rattle.std.specs.Prelude.{◌≡◌, ℕ, List, ◌++◌}
 use Rattle.mm_transfer.specs.Below.{Digests, Header, BothEvent, BothRunOutcome, IsClearPair, IsGenuinePair, IsFreshPair}
 use Rattle.mm_transfer.specs.Below.{both_outcome_joined, both_outcome_of_events, digest_mover}
+use Rattle.mm_evidence.specs.Laws.{RunsUntil}
+use Rattle.mm_sides.specs.Evidence.{HasPairEvidence}
 use Rattle.mm_transfer.specs.Pairs.{pair_of}
 use Rattle.mm_transfer.specs.Headline.{AreOneTransfer, IsOneTransfer}
 
@@ -13,6 +15,14 @@ PremisesGiveOneTransfer =
     → AreOneTransfer header events shown → (front later : List BothEvent) → events ≡ front ++ later
     → IsClearPair (pair_of header) front → IsGenuinePair (pair_of header) front
     → IsFreshPair (pair_of header) front → IsOneTransfer header front (shown front)
+
+-- And so it does of each up to the first event that gives evidence.
+abbrev pub OneTransferUntilEvidence : Type 0
+OneTransferUntilEvidence =
+    (header : Header) (events : List BothEvent) (shown : List BothEvent → BothRunOutcome Digests ℕ)
+    → AreOneTransfer header events shown
+    → RunsUntil (HasPairEvidence (pair_of header)) events
+    (λ front. IsOneTransfer header front (shown front))
 
 -- The whole transfer is that of each first part of the events, and then of the rest.
 abbrev pub TransfersGoOn : Type 0

@@ -4,7 +4,7 @@ ghost use Rattle.std.specs.Prelude.{◌≡◌, if◌then◌else◌};
 
 use crate::moving::{has_moved, refused};
 use crate::reply::MoveReply;
-use mm_base::{Bytes, Memory};
+use mm_bytes::{Bytes, Memory};
 use mm_move::MoveRefusal;
 use mm_platform::Stop;
 use std::alloc::Global;

@@ -18,7 +18,7 @@ use crate::moving::{Mover, has_moved, planned_accept, planned_invite, planned_re
 use crate::nonce::Nonce;
 use crate::reply::MoveReply;
 use crate::side::Side;
-use mm_base::{CELL_LENGTH, Memory};
+use mm_bytes::{CELL_LENGTH, Memory};
 use mm_digest::Digest;
 use mm_move::{Accepted, Invited, Link, MoveRefusal, MovedCell, read_moved};
 use mm_outcome::{CallPlan, offered, rising, world_barrier, world_key};

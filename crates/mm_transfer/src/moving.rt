@@ -10,7 +10,7 @@ ghost use Rattle.mm_transfer.specs.MovePlan.{MovesByPlan, has_effect_at};
 
 use crate::nonce::Nonce;
 use crate::reply::{MoveCause, MoveReply};
-use mm_base::{Bytes, Memory};
+use mm_bytes::{Bytes, Memory};
 use mm_model::Refusal;
 use mm_module::Module;
 use mm_move::{Accepted, Invited, Link, MoveRefusal};

@@ -8,7 +8,7 @@ ghost use Rattle.mm_transfer.specs.Replies.{IsSayable};
 
 use crate::event::SideChoice;
 use crate::reply::{MoveCause, MoveReply};
-use mm_base::{Bytes, Memory, put_numbered};
+use mm_bytes::{Bytes, Memory, put_numbered};
 use mm_replay::put_reply;
 
 impl MoveCause {

@@ -5,7 +5,7 @@ ghost use Rattle.mm_digest.specs.Messages.{start_digest_of};
 ghost use Rattle.mm_seal.specs.Cell.{blank_cell};
 ghost use Rattle.mm_modules.specs.Modules.{meaning_of};
 
-use mm_base::{CELL_LENGTH, Memory};
+use mm_bytes::{CELL_LENGTH, Memory};
 use mm_digest::{Digest, start};
 use mm_module::Module;
 use mm_schedule::{Event, Header, Reply};

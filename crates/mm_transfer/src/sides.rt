@@ -18,7 +18,7 @@ use crate::commands;
 use crate::event::{SideAct, SideChoice, SideEvent};
 use crate::reply::MoveReply;
 use crate::side::Side;
-use mm_base::Memory;
+use mm_bytes::Memory;
 use mm_outcome::CallPlan;
 use mm_schedule::{Event, Header};
 use std::alloc::Global;

@@ -1,7 +1,7 @@
 //! Both sides among their events.
 
 ghost use Rattle.std.specs.Prelude.{◌≡◌, ◌≤◌, ◌<◌, ◌+◌, ◌++◌, ◌∷◌, [], length, IfOk, OnErr, OnOk};
-ghost use Rattle.mm_base.specs.Limits.{longest_line, most_events};
+ghost use Rattle.mm_bytes.specs.Limits.{longest_line, most_events};
 
 use crate::event::{SideChoice, SideEvent};
 use crate::put::{put_answer, put_end};
@@ -9,7 +9,7 @@ use crate::read::read_side_event;
 use crate::reply::MoveReply;
 use crate::report::TransferReport;
 use crate::sides::Sides;
-use mm_base::{Bytes, Memory};
+use mm_bytes::{Bytes, Memory};
 use mm_play::{LineRefusal, PlayStage, ReplyFault};
 use mm_schedule::{EventFault, Header};
 use std::alloc::Global;

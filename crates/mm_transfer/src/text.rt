@@ -7,7 +7,7 @@ ghost use Rattle.mm_transfer.specs.Texts as texts;
 
 use crate::event::{Command, SideAct, SideChoice, SideEvent};
 use crate::nonce::Nonce;
-use mm_base::{Bytes, Memory};
+use mm_bytes::{Bytes, Memory};
 use mm_digest::Digest;
 use mm_platform::Stop;
 use mm_schedule::{Event, Meddles, OfferText, owned_offer};

@@ -9,7 +9,7 @@ ghost use Rattle.mm_transfer.specs.Stage.{TransferLineStage as Stands, first_tra
 use crate::opening::FirstLine;
 use crate::report::TransferReport;
 use crate::stage::TransferStage;
-use mm_lines::{ReplayFault, Sink, Source};
+use mm_base::{ReplayFault, Sink, Source};
 use mm_play::{LinePlayer, play};
 use mm_sides::{both_sides_agree, one_side_is_live, pairs_are_decided, sides_run_as_one};
 use std::alloc::Global;

@@ -15,8 +15,8 @@ pub use Rattle.clap.specs.Walk.{first_of, Row, rows_of, Text}
 pub use Rattle.clap.specs.Words.{app_of, new_app}
 pub use Rattle.clap.proofs.WalkLemmas.{first_value-rows}
 pub use Rattle.hex.proofs.HexLemmas.{decode_of-ok, decode_sized-ok, decode_sized-twice}
-pub use Rattle.mm_base.specs.DecimalLaws.{read_by_spelling}
-pub use Rattle.mm_base.specs.Limits.{most_events}
+pub use Rattle.mm_bytes.specs.DecimalLaws.{read_by_spelling}
+pub use Rattle.mm_bytes.specs.Limits.{most_events}
 pub use Rattle.mm_digest.specs.declared.variant.Variant.{Variant}
 pub use Rattle.mm_digest.specs.declared.variant.Variant.TheVariants.{Basic, Opt}
 pub use Rattle.mm_module.specs.Values.{value_at}

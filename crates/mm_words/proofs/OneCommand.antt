@@ -3,7 +3,7 @@ use Rattle.mm_words.proofs.Below.{◌≡◌, ◌≤◌, ◌∙◌, ℕ, List, []
 use Rattle.mm_words.proofs.Below.{option_map_or, bytes_eq, read_by_spelling, most_events, value_at, module_of_name, name_of, variant_text}
 use Rattle.mm_words.proofs.Below.{variant_at, Header, IsGenerated, SpellsCommand, CommandLine, Init, Run, Checkpoint, Power, Replay, Check}
 use Rattle.mm_words.proofs.Below.{Gen, Bulk, Slots, Receipts, Transfer, Help, GeneratedSchedule}
-use Rattle.mm_base.specs.Decimals.{decimal_number}
+use Rattle.mm_bytes.specs.Decimals.{decimal_number}
 use Rattle.mm_schedule.specs.Words.{◌>>=◌}
 use Rattle.mm_words.proofs.Matched.{name-read, variant-read}
 

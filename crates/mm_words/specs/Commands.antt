@@ -1,8 +1,8 @@
 -- The commands and the words that spell them.
 use Rattle.std.specs.Prelude.{◌≡◌, ◌<◌, ◌≤◌, ◌^◌, ℕ, List, [], ◌∷◌, ◌++◌, Some, codes}
 use Rattle.std.specs.Fmt.{decimal}
-use Rattle.mm_lines.specs.Input.{joined_lines}
-use Rattle.mm_base.specs.Limits.{most_events}
+use Rattle.mm_base.specs.Input.{joined_lines}
+use Rattle.mm_bytes.specs.Limits.{most_events}
 use Rattle.mm_module.specs.Values.{value_at}
 use Rattle.mm_modules.specs.Modules.{name_of, names_text}
 use Rattle.mm_schedule.specs.Headers.{variant_text}

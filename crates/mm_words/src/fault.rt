@@ -1,6 +1,6 @@
 //! Why words gave no command.
 
-use mm_base::Memory;
+use mm_bytes::Memory;
 use thiserror::Error;
 
 /// Why words gave no command.

@@ -2,13 +2,13 @@
 
 ghost use Rattle.std.specs.Prelude.{◌≡◌, ◌≤◌, IfSome};
 ghost use Rattle.clap.specs.Words.{found_of};
-ghost use Rattle.mm_base.specs.Limits.{most_events};
+ghost use Rattle.mm_bytes.specs.Limits.{most_events};
 ghost use Rattle.mm_words.specs.Commands.{IsInBounds, IsGenerated};
 ghost use Rattle.mm_words.specs.Forms.{command_in, count_at, schedule_in, header_in, key_of_words};
 
 use crate::command::{CommandLine, GeneratedSchedule};
 use clap::ArgMatches;
-use mm_base::{MOST_EVENTS, read_decimal};
+use mm_bytes::{MOST_EVENTS, read_decimal};
 use mm_module::value_in;
 use mm_modules::by_name;
 use mm_schedule::{Header, read_variant};

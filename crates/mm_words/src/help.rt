@@ -3,7 +3,7 @@
 ghost use Rattle.std.specs.Prelude.{◌≡◌, IfOk};
 ghost use Rattle.mm_words.specs.Commands.{help_text};
 
-use mm_base::{Bytes, Memory};
+use mm_bytes::{Bytes, Memory};
 use mm_modules::module_names;
 use std::alloc::Global;
 

@@ -5,7 +5,7 @@ pub use Rattle.std.proofs.Common.{◌&&◌, ◌++◌, ◌+◌, ◌-◌, ◌<◌,
 pub use Rattle.std.proofs.Common.{length, List, map, None, Ok, OnErr, Option, refl, Result, Some, subst, sym, take, true, ℕ}
 pub use Rattle.std.proofs.lemmas.Bool.{eq-eqb, eqb-true}
 pub use Rattle.std.proofs.lemmas.List.{append-nil, map-append}
-pub use Rattle.mm_base.specs.declared.fault.Memory.{Memory}
+pub use Rattle.mm_bytes.specs.declared.fault.Memory.{Memory}
 pub use Rattle.mm_digest.specs.Messages.{extended_digest_of, zero_bytes}
 pub use Rattle.mm_digest.specs.declared.variant.Variant.{Variant}
 pub use Rattle.mm_digest.specs.declared.variant.Variant.TheVariants.{Basic, Opt}

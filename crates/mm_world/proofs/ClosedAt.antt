@@ -3,7 +3,7 @@ use Rattle.mm_world.proofs.Below.{◌≡◌, ℕ, Bool, true, false, ◌&&◌, �
 use Rattle.mm_world.proofs.Below.{subst, StepFault, Meddle, Stop, Standing, StepGoes, ReadCell, fault_at, is_made_at, fault_by_plan}
 use Rattle.mm_world.proofs.Below.{is_some, end_of, Cell, Said, CheckpointRefusal, stopped_step, takes_effect, checkpoint_reply}
 use Rattle.std.specs.Result.{result_map_both}
-use Rattle.mm_base.specs.Faults.{next_count}
+use Rattle.mm_bytes.specs.Faults.{next_count}
 use Rattle.mm_platform.specs.Standing.{Plan}
 use Rattle.mm_platform.specs.Steps.{Act, ReadRegister}
 use Rattle.mm_machine.specs.OpEnds.{FindingEnds, breaks_off, goes_on}

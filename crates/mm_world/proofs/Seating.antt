@@ -2,7 +2,8 @@
 use Rattle.mm_world.proofs.Below.{◌≡◌, ℕ, ◌+◌, ◌-◌, ◌≤◌, ◌^◌, List, [], ◌∷◌, ◌++◌, length, Option, None, Some, Result, Ok, Err, refl, sym}
 use Rattle.mm_world.proofs.Below.{ap, ◌∙◌, IfOk, subst, arith, append-nil, option_to_list, Memory, Batch, meaning_of, Meddle, Stop}
 use Rattle.mm_world.proofs.Below.{Standing, Instance, Digests, digests_after, Foreign, Reply, Ask, Checkpoint, HasDigests, AsksPlanned, planned_ask}
-use Rattle.mm_world.proofs.Below.{ChecksPlanned, refusal_of_fault, reads_beside}
+use Rattle.mm_world.proofs.Below.{ChecksPlanned, refusal_of_fault, reads_beside, MatchResult, Variant, Meaning, Cell, CellFault, Refusal}
+use Rattle.mm_world.proofs.Below.{CallComesInVain, read_only_outcome, quiet_call, digest_level, instance_by, vain_refusal, Event}
 use Rattle.std.specs.List.{sum_by}
 use Rattle.std.proofs.lemmas.List.Sums.{sum_by-append}
 use Rattle.mm_schedule.specs.declared.event.Offer.{Offer}
@@ -11,7 +12,10 @@ use Rattle.mm_outcome.specs.EventOffers.{offered_bytes}
 use Rattle.mm_world.specs.declared.call.CallReport.{CallReport}
 use Rattle.mm_world.specs.declared.seat.Seat.{Seat}
 use Rattle.mm_world.specs.Lengths.{length_if, within_64}
-use Rattle.mm_world.specs.Seat.{IsOver, EndsCall, SeatStaysOn, SeatTakesEvent, extended_standing}
+use Rattle.mm_outcome.specs.Folds.{vain_event_outcome}
+use Rattle.mm_world.specs.VainCalls.{IsRead}
+use Rattle.mm_world.specs.Seat.{IsOver, EndsCall, EventComesInVain, SeatStaysOn, SeatGoesOn, SeatLacksMemoryInVain, SeatTakesEvent}
+use Rattle.mm_world.specs.Seat.{extended_standing, vain_event_refusal}
 use Rattle.mm_world.proofs.Asking.{stands_read}
 
 -- the bytes that are kept, with one more snapshot
@@ -48,6 +52,12 @@ stands_extended i d value old s =
 -- a call that asks
 
 module _ (meddles : List Meddle) (stop : Stop) (offer : Offer) (b : Batch) where
+  -- where such an event doesn't go on with a cell, its call doesn't
+  asks_vain : (h : Header) (read : Result Cell CellFault) (why : Refusal) → vain_event_refusal h (Ask meddles stop offer b) read ≡ Some why
+      → vain_refusal h.variant (meaning_of h.«module»).id read ≡ Some why
+  asks_vain h (Err fault) why e = e
+  asks_vain h (Ok cell) why e = e
+
   abbrev Planned : Header → Standing → Standing → List (List ℕ) → Result CallReport Memory → Type 0
   Planned h old new lent result =
       AsksPlanned h.variant (meaning_of h.«module») old new lent (planned_ask meddles stop (offered_bytes lent offer) b) result
@@ -83,8 +93,9 @@ module _ (meddles : List Meddle) (stop : Stop) (offer : Offer) (b : Batch) where
               steps = came.steps;
               writes = came.writes;
             };
-        vain = λ i d fault read.
-            let came = there.vain i d (Err fault) (refusal_of_fault fault) read refl in record {
+        closes = tt;
+        vain = λ i d read why is vain.
+            let came = there.vain i d read why is (asks_vain old.header read why vain) in record {
               reply = ends.says ∙ came.reply;
               issued = issued ∙ came.issues;
               committed = (let fits = old.fits in let none = came.committed in let now = ends.committed in
@@ -115,42 +126,62 @@ module _ (meddles : List Meddle) (stop : Stop) (offer : Offer) (b : Batch) where
       record {
         header = stays.header;
         own = λ key barrier d stands quiet count. (stays, there.own key barrier d stands quiet);
-        vain = λ i d fault read. (stays, there.vain i d (Err fault) (refusal_of_fault fault) read refl);
+        closes = tt;
+        vain = λ i d read why is vain. (stays, there.vain i d read why is (asks_vain old.header read why vain));
       }
 
 -- a checkpoint
-pub checks : (meddles : List Meddle) (stop : Stop) (old new : Seat) (result : Result Reply Memory) → SeatStaysOn new.platform old new
-    → ChecksPlanned old.platform new.platform old.issued.items meddles stop result → SeatTakesEvent (Checkpoint meddles stop) old new result
-checks meddles stop old new (Ok said) s planned =
-    let fits = old.fits in
-    record {
-      header = s.header;
-      own = λ key barrier d stands quiet count.
-          let came = planned.own old.header.variant (meaning_of old.header.«module») key barrier d stands quiet in record {
-            reply = came.reply;
-            issued = s.issued;
-            committed = counted_same old.committed _ new.committed fits (let same = came.counts in omega (arith, same, count)) s.committed;
-            rises = (let same = came.counts in omega (arith, same, count));
-            stands = came.stands;
-            quiet = came.quiet;
-            steps = came.steps;
-            writes = came.writes;
-          };
-      vain = λ i d fault read.
-          let came = planned.vain i d fault read in record {
-            reply = came.reply;
-            issued = s.issued ∙ sym (append-nil old.issued.items) ∙ came.issues;
-            committed = s.committed;
-            cell = came.cell;
-            register = came.register;
-            quiet = came.quiet;
-            steps = came.steps;
-            writes = came.writes;
-          };
-    }
-checks meddles stop old new (Err memory) s planned = record {
-  header = s.header;
-  own = λ key barrier d stands quiet count.
-      (s, planned.own old.header.variant (meaning_of old.header.«module») key barrier d stands quiet);
-  vain = λ i d fault read. (s, planned.vain i d fault read);
-}
+
+module _ (meddles : List Meddle) (stop : Stop) (old new : Seat) where
+  abbrev event : Event
+  event = Checkpoint meddles stop
+
+  -- over the cell of any instance
+  checks_on : (result : Result Reply Memory) (variant : Variant) (meaning : Meaning) (key barrier : List ℕ)
+      → SeatStaysOn new.platform old new → ChecksPlanned old.platform new.platform old.issued.items meddles stop result
+      → SeatGoesOn (instance_by variant meaning key barrier) event old new result
+  checks_on (Ok said) variant meaning key barrier s planned = λ d stands quiet count.
+      let fits = old.fits in
+      let came = planned.own variant meaning key barrier d stands quiet in record {
+        reply = came.reply;
+        issued = s.issued;
+        committed = counted_same old.committed _ new.committed fits (let same = came.counts in omega (arith, same, count)) s.committed;
+        rises = (let same = came.counts in omega (arith, same, count));
+        stands = came.stands;
+        quiet = came.quiet;
+        steps = came.steps;
+        writes = came.writes;
+      }
+  checks_on (Err memory) variant meaning key barrier s planned =
+      λ d stands quiet count. (s, planned.own variant meaning key barrier d stands quiet)
+
+  -- over none
+  checks_none : (result : Result Reply Memory) (i : Instance) (d : Digests) (read : Result Cell CellFault) (why : Refusal)
+      → SeatStaysOn new.platform old new → ChecksPlanned old.platform new.platform old.issued.items meddles stop result
+      → IsRead read d old.platform → vain_event_refusal old.header event read ≡ Some why
+      → MatchResult result (EventComesInVain (vain_event_outcome (digest_level i) d old.issued.items why event) old new)
+      (λ _. SeatStaysOn new.platform old new × SeatLacksMemoryInVain event old.platform new.platform)
+  checks_none result i d (Ok cell) why s planned is vain = cc
+  checks_none (Ok said) i d (Err fault) why s planned is vain =
+      let known : refusal_of_fault fault ≡ why = cc in
+      let came = subst (λ (w : Refusal). CallComesInVain (read_only_outcome (digest_level i) d old.issued.items meddles stop w)
+      old.issued.items old.platform new.platform (quiet_call said)) known (planned.vain i d fault is) in record {
+        reply = came.reply;
+        issued = s.issued ∙ sym (append-nil old.issued.items) ∙ came.issues;
+        committed = s.committed;
+        cell = came.cell;
+        register = came.register;
+        quiet = came.quiet;
+        steps = came.steps;
+        writes = came.writes;
+      }
+  checks_none (Err memory) i d (Err fault) why s planned is vain = (s, planned.vain i d fault is)
+
+  pub checks : (result : Result Reply Memory) → SeatStaysOn new.platform old new
+      → ChecksPlanned old.platform new.platform old.issued.items meddles stop result → SeatTakesEvent event old new result
+  checks result s planned = record {
+    header = s.header;
+    own = λ key barrier. checks_on result old.header.variant (meaning_of old.header.«module») key barrier s planned;
+    closes = λ variant meaning key barrier. checks_on result variant meaning key barrier s planned;
+    vain = λ i d read why is vain. checks_none result i d read why s planned is vain;
+  }

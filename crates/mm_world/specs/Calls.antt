@@ -2,7 +2,7 @@
 use Rattle.std.specs.Prelude.{◌≡◌, ℕ, ◌-◌, ◌&&◌, Bool, true, false, length, Option, None, Some, Result, Ok, Err, IsErr, is_some}
 use Rattle.std.specs.Prelude.{if◌then◌else◌}
 use Rattle.std.specs.Option.{option_map_or}
-use Rattle.mm_base.specs.declared.fault.Memory.{Memory}
+use Rattle.mm_bytes.specs.declared.fault.Memory.{Memory}
 use Rattle.mm_platform.specs.declared.plan.Stop.{Stop}
 use Rattle.mm_platform.specs.declared.plan.Stop.TheVariants as stop
 use Rattle.mm_platform.specs.Standing.{Standing}

@@ -1,7 +1,10 @@
 -- A seat: a module on a platform in memory, and what becomes of it.
-use Rattle.std.specs.Prelude.{◌≡◌, ◌≤◌, ℕ, ◌+◌, List, [], ◌∷◌, ◌++◌, Option, Some, Result, Err, MatchResult, option_to_list}
-use Rattle.mm_base.specs.declared.fault.Memory.{Memory}
+use Rattle.std.specs.Prelude.{◌≡◌, ◌≤◌, ℕ, ◌+◌, List, [], ◌∷◌, ◌++◌, Option, None, Some, Result, Ok, Err, MatchResult, option_to_list}
+use Rattle.mm_bytes.specs.declared.fault.Memory.{Memory}
+use Rattle.mm_digest.specs.declared.variant.Variant.{Variant}
+use Rattle.mm_module.specs.Meaning.{Meaning}
 use Rattle.mm_seal.specs.Cell.{cell_spelling}
+use Rattle.mm_seal.specs.declared.cell.Cell.{Cell}
 use Rattle.mm_seal.specs.declared.cell.CellFault.{CellFault}
 use Rattle.mm_platform.specs.Memory.{new_platform}
 use Rattle.mm_platform.specs.Standing.{Standing}
@@ -11,16 +14,17 @@ use Rattle.mm_model.specs.History.{first_history}
 use Rattle.mm_model.specs.Instance.{Instance}
 use Rattle.mm_model.specs.Moves.{Digests}
 use Rattle.mm_model.specs.Standing.{cell_of, issued_bytes, register_reading}
+use Rattle.mm_model.specs.declared.refusal.Refusal.{Refusal}
 use Rattle.mm_call.specs.Levels.{digest_level}
 use Rattle.mm_call.specs.Standing.{instance_by, count_after_more}
-use Rattle.mm_schedule.specs.Events.{Event, Ask, Power}
+use Rattle.mm_schedule.specs.Events.{Event, Ask, Checkpoint, Power}
 use Rattle.mm_schedule.specs.declared.header.Header.{Header}
 use Rattle.mm_schedule.specs.declared.reply.Reply.{Reply}
 use Rattle.mm_outcome.specs.Folds.{Outcome, event_outcome, vain_event_outcome}
 use Rattle.mm_world.specs.declared.call.CallReport.{CallReport}
 use Rattle.mm_world.specs.declared.seat.Seat.{Seat}
 use Rattle.mm_world.specs.OwnCalls.{CallLacksMemory}
-use Rattle.mm_world.specs.VainCalls.{IsRead, refusal_of_fault}
+use Rattle.mm_world.specs.VainCalls.{IsRead, refusal_of_fault, vain_refusal}
 use Rattle.mm_world.specs.Lengths.{length_if, within_64}
 use Rattle.mm_world.specs.WorldStanding.{HasDigests, IsQuiet}
 
@@ -116,21 +120,41 @@ abbrev pub SeatLacksMemoryInVain : Event → Standing → Standing → Type 0
 SeatLacksMemoryInVain Power old new = ⊥
 SeatLacksMemoryInVain event old new = new ≡ old
 
--- An event happened at a seat, over the cell of its variant and module, under any key and barrier,
--- and over one that is blank or spells none.
+-- what an event at a seat comes to over the cell of this instance
+abbrev pub SeatGoesOn : Instance → Event → Seat → Seat → Result Reply Memory → Type 0
+SeatGoesOn i event old new result =
+    (d : Digests) → HasDigests i old.platform d → IsQuiet old.platform → d.count ≡ old.committed
+    → MatchResult result
+    (EventComesTo i (event_outcome i (digest_level i) d old.issued.items event) old new)
+    (λ _. SeatStaysOn new.platform old new × SeatLacksMemory i d event old.platform new.platform)
+
+-- a checkpoint goes on with the cell of any variant and module
+abbrev pub ClosesAnyCell : Event → Seat → Seat → Result Reply Memory → Type 0
+ClosesAnyCell (Checkpoint meddles stop) old new result =
+    (variant : Variant) (meaning : Meaning) (key barrier : List ℕ)
+    → SeatGoesOn (instance_by variant meaning key barrier) (Checkpoint meddles stop) old new result
+ClosesAnyCell event old new result = Unit {0}
+
+-- why an event at a seat with this header doesn't go on with a cell, by what its bytes read as;
+-- none where it does
+abbrev pub vain_event_refusal : Header → Event → Result Cell CellFault → Option Refusal
+vain_event_refusal header event (Err fault) = Some (refusal_of_fault fault)
+vain_event_refusal header (Checkpoint meddles stop) (Ok cell) = None
+vain_event_refusal header event (Ok cell) =
+    vain_refusal header.variant (meaning_of header.«module»).id (Ok cell)
+
+-- An event happened at a seat: over the cell of its variant and module, under any key and barrier;
+-- a checkpoint, over that of any other, too; and over each cell that it doesn't go on with, as one
+-- that is blank, that spells none, or that another variant or module has.
 pub record SeatTakesEvent (event : Event) (old new : Seat)
     (result : Result Reply Memory) : Type 0 where
   pub header : new.header ≡ old.header
-  pub own : (key barrier : List ℕ) (d : Digests)
-      → let i = instance_at old.header key barrier in
-      HasDigests i old.platform d → IsQuiet old.platform → d.count ≡ old.committed
+  pub own : (key barrier : List ℕ)
+      → SeatGoesOn (instance_at old.header key barrier) event old new result
+  pub closes : ClosesAnyCell event old new result
+  pub vain : (i : Instance) (d : Digests) (read : Result Cell CellFault) (why : Refusal)
+      → IsRead read d old.platform → vain_event_refusal old.header event read ≡ Some why
       → MatchResult result
-      (EventComesTo i (event_outcome i (digest_level i) d old.issued.items event) old new)
-      (λ _. SeatStaysOn new.platform old new × SeatLacksMemory i d event old.platform new.platform)
-  pub vain : (i : Instance) (d : Digests) (fault : CellFault)
-      → IsRead (Err fault) d old.platform
-      → MatchResult result
-      (EventComesInVain (vain_event_outcome (digest_level i) d old.issued.items
-      (refusal_of_fault fault) event) old new)
+      (EventComesInVain (vain_event_outcome (digest_level i) d old.issued.items why event) old new)
       (λ _. SeatStaysOn new.platform old new × SeatLacksMemoryInVain event
       old.platform new.platform)

@@ -1,7 +1,7 @@
 -- What a call comes to over the platform of a world whose cell is none that it goes on with.
 use Rattle.std.specs.Prelude.{◌≡◌, ℕ, ◌==◌, ◌&&◌, List, ◌++◌, Option, None, Some, Result, Ok, Err, MatchResult, option_to_list}
 use Rattle.std.specs.Prelude.{if◌then◌else◌}
-use Rattle.mm_base.specs.declared.fault.Memory.{Memory}
+use Rattle.mm_bytes.specs.declared.fault.Memory.{Memory}
 use Rattle.mm_digest.specs.declared.variant.Variant.{Variant}
 use Rattle.mm_module.specs.Meaning.{Meaning}
 use Rattle.mm_platform.specs.declared.plan.Meddle.{Meddle}

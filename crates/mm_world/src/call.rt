@@ -13,7 +13,7 @@ ghost use Rattle.mm_opt.specs.ClosingOperation.{closing_operation};
 
 use crate::planning::planned;
 use mm_ask::{Ask, Caller};
-use mm_base::{Bytes, Memory};
+use mm_bytes::{Bytes, Memory};
 use mm_call::{AskResult, KeptKey};
 use mm_digest::Variant;
 use mm_machine::OpResult as End;

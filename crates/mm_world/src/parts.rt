@@ -3,7 +3,7 @@
 ghost use Rattle.std.specs.Prelude.{◌≡◌};
 ghost use Rattle.mm_world.specs.Lengths.{length_if};
 
-use mm_base::Bytes;
+use mm_bytes::Bytes;
 
 /// How many bytes there are, if any.
 pub fn length_if(bytes: &Option<Bytes>) -> u64

@@ -7,7 +7,7 @@ ghost use Rattle.mm_world.specs.PlannedCall.{IsPlanned};
 
 use crate::call::{CallReport, came_to, closes, settle, told_closing};
 use mm_ask::Ask;
-use mm_base::Memory;
+use mm_bytes::Memory;
 use mm_call::KeptKey;
 use mm_machine::{OpResult, Operation, run};
 use mm_model::{BatchAnswer, Refusal};
@@ -20,7 +20,7 @@ use mm_platform::{MemPlatform, Stop};
 pub trait CallTeller: Operation {
     ghost use Rattle.std.specs.Prelude.{ℕ, Option, Result};
     ghost use Rattle.std.specs.Result.{IsOk};
-    ghost use Rattle.mm_base.specs.declared.fault.Memory.{Memory};
+    ghost use Rattle.mm_bytes.specs.declared.fault.Memory.{Memory};
     ghost use Rattle.mm_platform.specs.declared.fault.StepFault.{StepFault};
     ghost use Rattle.mm_platform.specs.declared.plan.Stop.{Stop};
     ghost use Rattle.mm_machine.specs.declared.call.OpResult.{OpResult};

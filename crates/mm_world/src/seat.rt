@@ -8,7 +8,7 @@ use crate::call::{CallReport, call_by_offer, planned_checkpoint};
 use crate::parts::length_if;
 use crate::views::{EventView, OfferView};
 use mm_ask::{Caller, Secrets, provision};
-use mm_base::{Bytes, CELL_LENGTH, Memory};
+use mm_bytes::{Bytes, CELL_LENGTH, Memory};
 use mm_call::{KeptKey, Provisioned};
 use mm_digest::Digest;
 use mm_module::Batch;

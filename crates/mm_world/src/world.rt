@@ -3,7 +3,7 @@
 use crate::keys::world_secrets;
 use crate::seat::Seat;
 use crate::views::{EventView, line_view, owned_view};
-use mm_base::Memory;
+use mm_bytes::Memory;
 use mm_platform::MemPlatform;
 use mm_schedule::{Event, EventText, Header, Meddles, Reply};
 use std::alloc::Global;
@@ -30,7 +30,7 @@ impl Model for World {
 impl World {
     ghost use Rattle.std.specs.Prelude.{◌≡◌, ◌<◌, ◌≤◌, ◌+◌, ◌-◌, ◌^◌, IfOk, OnErr, length, slice_get, option_copied};
     ghost use Rattle.std.specs.List.{sum_by};
-    ghost use Rattle.mm_base.specs.Limits.{most_members};
+    ghost use Rattle.mm_bytes.specs.Limits.{most_members};
     ghost use Rattle.mm_schedule.specs.Events.{event_of, meddles_of};
     ghost use Rattle.mm_schedule.specs.Texts as texts;
     ghost use Rattle.mm_schedule.specs.Replies.{IsPrintable};

@@ -5,15 +5,14 @@ use Rattle.mm_expect.proofs.FindLaws.{right_is}
 use Rattle.mm_expect.proofs.expecting.call_and_list.Goals as goal
 
 pub returns-clause-went : goal.returns-clause-went
-returns-clause-went c =
+returns-clause-went c = λ bytes told.
     let i = chronicle_instance c.args.chronicle.now in
-    let bytes = c.args.bytes.now in
-    let told = c.right_body-offer.ensures.offer in
-    let calls = rw c.forget_messages.ensures at c.in_ok-ended.ensures.calls in
+    let forgot = rw c.in_ok-list_asked.ensures.same at c.forget_messages.ensures in
+    let calls = rw forgot at c.in_ok-ended.ensures.calls in
     let handed = c.in_ok-hand_messages.ensures in
     went_by_call {meddles = c.args.course.now.meddles.now} {bytes = bytes} {b = batch_of c.args.batch}
-    (c.in_ok-list_asked.ensures ∙ ap (λ said. c.args.messages.now.items ++ right_messages i (batch_of c.args.batch) said)
-    (sym (right_is i bytes _ told)))
+    (c.in_ok-list_asked.ensures.messages
+    ∙ ap (λ said. c.args.messages.now.items ++ right_messages i (batch_of c.args.batch) said) (sym (right_is i bytes _ told)))
     (calls bytes told) handed.history handed.variant handed.«module» handed.messages
     (rw c.is_broken-is_broken.ensures at c.restore.ensures)
     (c.said_of.ensures.reply ∙ ap (λ w. reply_of w (ending_of c.in_ok-ended.ended)) c.way.ensures) c.said_of.ensures.snapshot

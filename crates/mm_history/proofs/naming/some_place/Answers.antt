@@ -1,33 +1,31 @@
-use Rattle.std.proofs.Common.{ap, length, refl}
-use Rattle.mm_history.proofs.PlaceLaws.{walk_at, walk_begins, walk_here, walk_past, walk_on}
+use Rattle.mm_history.proofs.Below.{◌∙◌, length, sym, arith, kept_batch, length-map}
+use Rattle.mm_history.proofs.PlaceLaws.{begins_fits, begins_same, begins_within, segments_are, segments_on}
 use Rattle.mm_history.proofs.naming.some_place.Goals as goal
 
-pub closed-init : goal.closed-init
-closed-init c = walk_begins c.args.id c.args.barrier.now c.args.lists.now c.args.sought.now.named.now c.args.sought.now.anchor.now.bytes
-    c.args.sought.now.extension.now.bytes c.closed-closed.result.now c.first_stage-here.result
-    (c.first_stage-here.ensures c.args.barrier.now)
+pub segments_from-requires : goal.segments_from-requires
+segments_from-requires c =
+    let same = segments_are c.closed-closed.result.now c.closed-closed.ensures in
+    let within = begins_within c.args.id c.args.barrier.now c.args.lists.now.closed _ c.stage_before-first.result
+    (c.stage_before-first.ensures c.args.barrier.now c.args.lists.now.closed same c.requires.stages) in
+    omega (arith, within, same)
 
-pub returns-then-is_here : goal.returns-then-is_here
-returns-then-is_here c =
-    walk_here c.args.sought.now.named.now c.closed-closed.result.now c.closed.segment-index c.segment-item.result c.closed-test.true
-    c.segment-item.is c.closed.invariant (ap length c.as_slice-items.ensures.value) c.is_clear-is_shut.ensures c.both-ends.ensures
-    c.is_here.ensures c.if-is_here.true c.closed-closed.ensures
+pub some_place_from-requires-clause-first : goal.some_place_from-requires-clause-first
+some_place_from-requires-clause-first c = (c.stage_before-first.ensures c.args.barrier.now c.args.lists.now.closed
+    (segments_are c.closed-closed.result.now c.closed-closed.ensures) c.requires.stages).is
 
-pub returns-then-size-sought : goal.returns-then-size-sought
-returns-then-size-sought c =
-    walk_past c.args.sought.now.named.now c.closed-closed.result.now c.closed.segment-index c.segment-item.result c.closed-test.true
-    c.segment-item.is c.closed.invariant (ap length c.as_slice-items.ensures.value) c.is_clear-is_shut.ensures c.both-ends.ensures
-    c.is_here.ensures c.if-is_here.false c.if-size-sought.true c.closed-closed.ensures c.last_anchor-last.ensures c.is_inside.ensures
+pub some_place_from-requires-clause-closed : goal.some_place_from-requires-clause-closed
+some_place_from-requires-clause-closed c = segments_on c.closed-closed.result.now c.stage_before-first.result.count c.closed-closed.ensures
+    c.segments_from.ensures
 
-pub closed-preserved : goal.closed-preserved
-closed-preserved c =
-    walk_on c.args.sought.now.named.now c.closed-closed.result.now c.closed.segment-index c.segment-item.result c.closed-test.true
-    c.segment-item.is c.closed.invariant (ap length c.as_slice-items.ensures.value) c.is_clear-is_shut.ensures c.both-ends.ensures
-    c.is_here.ensures c.if-is_here.false c.args.stages.now c.if-size-sought.false c.as_slice-items.ensures.value c.closed-closed.ensures
-    c.requires.stages
-    refl c.stage_behind-here.ensures
+pub some_place_from-requires-clause-fits : goal.some_place_from-requires-clause-fits
+some_place_from-requires-clause-fits c = begins_fits c.args.id c.args.barrier.now c.args.lists.now.closed _ c.stage_before-first.result
+    (c.stage_before-first.ensures c.args.barrier.now c.args.lists.now.closed
+    (segments_are c.closed-closed.result.now c.closed-closed.ensures) c.requires.stages)
 
-pub returns-then-is_at : goal.returns-then-is_at
-returns-then-is_at c =
-    walk_at c.args.sought.now.named.now c.closed-closed.result.now c.closed.segment-index c.closed-test.false c.closed.invariant
-    c.is_at.ensures c.if-is_at.true c.closed-closed.ensures
+pub returns : goal.returns
+returns c =
+    let begins = c.stage_before-first.ensures c.args.barrier.now c.args.lists.now.closed
+    (segments_are c.closed-closed.result.now c.closed-closed.ensures) c.requires.stages in
+    c.some_place_from.ensures
+    ∙ begins_same c.args.id c.args.barrier.now c.args.lists.now _ c.args.sought.now.anchor.now.bytes c.args.sought.now.extension.now.bytes
+    (length c.args.sought.now.named.now) c.stage_before-first.result (sym (length-map c.args.sought.now.named.now kept_batch)) begins

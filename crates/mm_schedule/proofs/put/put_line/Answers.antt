@@ -2,7 +2,7 @@ use Rattle.std.proofs.lemmas.Grind.{common_steps}
 use Rattle.mm_schedule.proofs.Below.{arith, ◌≡◌, ◌+◌, ◌<◌, ◌++◌, ℕ, List, OnOk, length, ap, ◌∙◌, option_map, Option, Some, slice_get}
 use Rattle.mm_schedule.proofs.Below.{lines_of_reply, told_lines, told_line}
 use Rattle.std.proofs.Common.{Result, Ok, Err}
-use Rattle.mm_base.specs.declared.fault.Memory.{Memory}
+use Rattle.mm_bytes.specs.declared.fault.Memory.{Memory}
 use Rattle.mm_schedule.proofs.PrintLaws.{length-told_lines, told_lines-at}
 use Rattle.mm_schedule.proofs.put.put_line.Goals as goal
 

@@ -1,9 +1,9 @@
-use Rattle.mm_check.proofs.Below.{ℕ, ◌≡◌, ◌+◌, List, length, take, ap, subst, arith, length-map, length-take, world_of, Event}
+use Rattle.mm_check.proofs.Below.{ℕ, ◌≡◌, ◌+◌, List, length, take, ap, subst, sym, arith, length-map, length-take, world_of, Event}
 use Rattle.mm_check.proofs.Below.{event_of, events_of, numbered_messages, StandsBehind}
 use Rattle.std.proofs.lemmas.Result.{on_ok_weaker}
 use Rattle.mm_check.specs.PremiseDecision.{LooksAtEvent}
 use Rattle.mm_check.specs.declared.deciding.Decider.{Decider}
-use Rattle.mm_check.proofs.DecidingLaws.{heard_after, room_for, stands_next}
+use Rattle.mm_check.proofs.DecidingLaws.{heard_after, looks_then, room_for, stands_next}
 use Rattle.mm_numbering.proofs.GuardLaws.{events_more}
 use Rattle.mm_check.proofs.deciding.Decider.follow_event.Goals as goal
 
@@ -30,7 +30,7 @@ returns c =
     let new : Decider = record {
       expecting = c.event.new.self;
       numbers = c.take_in.new.numbers;
-      forged = c.in_ok-forged.forged;
+      forged = c.first_then-forged.result;
       lines = c.take_in.new.lines;
     } in
     on_ok_weaker c.take_in.result (λ takes.
@@ -38,5 +38,8 @@ returns c =
     (stands_next header before (event_of event) c.args.self.now new c.in_ok-heard.heard c.requires.stands
     (heard_after header before _ _ _ after told.hears) (told.after header before after) told.grows
     (takes.lists (numbered_messages (world_of header) before) c.requires.stands.lists) takes.told
-    (subst (λ (n : ℕ). LooksAtEvent c.args.self.now.expecting c.args.self.now.forged (event_of event) n c.in_ok-forged.forged)
-    (ap (λ (n : ℕ). n + 1) count) c.in_ok-forged.ensures))) c.take_in.ensures
+    (subst (λ (n : ℕ). LooksAtEvent c.args.self.now.expecting c.args.self.now.forged (event_of event) n c.first_then-forged.result)
+    (ap (λ (n : ℕ). n + 1) count)
+    (subst (LooksAtEvent c.args.self.now.expecting c.args.self.now.forged (event_of event) (index + 1)) (sym c.first_then-forged.ensures)
+    (looks_then c.args.self.now.expecting (event_of event) (index + 1) c.args.self.now.forged c.in_ok-heard.heard.is_genuine
+    told.decides))))) c.take_in.ensures
