@@ -1,7 +1,7 @@
 //! The callers over the counter and a platform in memory.
 
 use mm_ask::{Secrets, provision};
-use mm_base::Memory;
+use mm_bytes::Memory;
 use mm_call::Provisioned;
 use mm_callers::closing::ask_close_repeat;
 use mm_callers::{basic, opt};

@@ -2,7 +2,7 @@
 
 use crate::limits::Repeated;
 use mm_app::memoir;
-use mm_lines::{Sink, Source};
+use mm_base::{Sink, Source};
 use mm_platform::{MemPlatform, Platform};
 use mm_store::{MemStore, Store};
 use std::alloc::Global;

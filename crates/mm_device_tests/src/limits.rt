@@ -3,8 +3,8 @@
 ghost use Rattle.std.specs.Prelude.{None};
 
 use crate::commands::{play, replay};
-use mm_base::{Bytes, Failed, Memory};
-use mm_lines::{MemSink, Source};
+use mm_base::{MemSink, Source};
+use mm_bytes::{Bytes, Failed, Memory};
 use std::alloc::{AllocError, Global};
 use std::test::Fail;
 

@@ -1,7 +1,7 @@
 //! Lines of an input that fails, or that has longer ones.
 
-use mm_base::{Bytes, Memory, read_decimal};
-use mm_lines::{LineFault, LineReader, MemSource, Read};
+use mm_base::{LineFault, LineReader, MemSource, Read};
+use mm_bytes::{Bytes, Memory, read_decimal};
 use std::alloc::Global;
 use std::test::Fail;
 

@@ -1,6 +1,6 @@
 //! Histories and verdicts, and a machine.
 
-use mm_base::{Memory, read_decimal};
+use mm_bytes::{Memory, read_decimal};
 use mm_digest::{Digest, Variant};
 use mm_model::Verdict;
 use mm_module::{Batch, Counter};

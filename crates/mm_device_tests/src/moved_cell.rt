@@ -1,7 +1,7 @@
 //! The cells of a move, read as they are spelled.
 
 use crate::samples::{NONCE, OTHER, spelled};
-use mm_base::{CELL_LENGTH, read_decimal};
+use mm_bytes::{CELL_LENGTH, read_decimal};
 use mm_digest::Variant;
 use mm_move::{MovedCell, moved_bytes, read_moved};
 use mm_seal::CellFault;

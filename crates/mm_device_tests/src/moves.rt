@@ -1,7 +1,7 @@
 //! Moves of the counter between platforms in memory.
 
 use crate::samples::{KEY, LINK, NONCE, cell_of, offer_of, place_at, summary, ticket_of};
-use mm_base::{Bytes, Memory, put_numbered};
+use mm_bytes::{Bytes, Memory, put_numbered};
 use mm_digest::Variant;
 use mm_module::Counter;
 use mm_move::{Accepted, Invited, MoveRefusal, OfferedTicket, accept, invite, read_ticket, retire};

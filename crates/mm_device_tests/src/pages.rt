@@ -1,7 +1,7 @@
 //! Which pages a write reads and writes, and what no clause says of the device in memory.
 
-use mm_base::{Failed, Memory};
 use mm_basic::provision;
+use mm_bytes::{Failed, Memory};
 use mm_module::Counter;
 use mm_pages::{MemPages, PageDevice, PageStore};
 use mm_store::{LONGEST_SLOT, Store, StoreFault};
@@ -257,6 +257,7 @@ enum Trial {
     Changed,
     FailedWrites,
     PutRight,
+    LostPages,
     MostBytes,
 }
 
@@ -275,6 +276,7 @@ fn tried_on(
         Trial::Changed => changed_pages_are_written(rt, store, alloc),
         Trial::FailedWrites => failed_writes_are_dropped(rt, store, alloc),
         Trial::PutRight => changed_pages_are_put_right(rt, store, alloc),
+        Trial::LostPages => lost_pages_are_written_again(rt, store, alloc),
         Trial::MostBytes => most_are_held(rt, store, alloc),
     }
 }
@@ -300,6 +302,11 @@ fn an_equal_digest_alone_skips_nothing(rt: HostRuntime) -> Result<(), Fail> {
 }
 
 #[test]
+fn what_a_failed_call_lost_is_written_again(rt: HostRuntime) -> Result<(), Fail> {
+    tried(&rt, rt.alloc(), Trial::LostPages)
+}
+
+#[test]
 fn slots_hold_the_most_bytes(rt: HostRuntime) -> Result<(), Fail> {
     tried(&rt, rt.alloc(), Trial::MostBytes)
 }
@@ -318,6 +325,68 @@ fn a_write_ends_with_a_sync(rt: HostRuntime) -> Result<(), Fail> {
     assert!(rt; unsynced(&mut store) == (true, true));
     assert!(rt; put(&mut store, 0, &[]) == Ok(()) && unsynced(&mut store) == (false, true));
     Ok(())
+}
+
+// Whether power is lost once another program began over the device, and slot 0 is read as these
+// bytes before and behind it, though no call renews it then.
+fn is_kept(store: &mut PageStore<MemPages>, alloc: Global, bytes: &[u8]) -> bool {
+    store.forget_all();
+    let is_there = holds(store, alloc, 0, bytes);
+    let renewals = store.device().renewals();
+    let is_once = holds(store, alloc, 0, bytes) && store.device().renewals() == renewals;
+    store.device().lose_power();
+    is_once && is_there && holds(store, alloc, 0, bytes)
+}
+
+// Whether a write of other bytes to slot 0 fails at this call of the device, and what another
+// program reads there lasts, whether it is the one or the other.
+fn is_written_again(
+    store: &mut PageStore<MemPages>,
+    alloc: Global,
+    call: u64,
+) -> Result<bool, Fail> {
+    put(store, 0, &ONES)?;
+    store.device().lose_at(call);
+    let is_failed = is_stopped(store);
+    let is_other = call == 6;
+    let bytes = if is_other { &ZEROS } else { &ONES };
+    Ok(is_failed && is_kept(store, alloc, bytes))
+}
+
+fn lost_pages_are_written_again(
+    rt: &impl Abort,
+    store: &mut PageStore<MemPages>,
+    alloc: Global,
+) -> Result<(), Fail> {
+    assert!(rt; is_written_again(store, alloc, 1)? && is_written_again(store, alloc, 6)?);
+    Ok(())
+}
+
+// Syncs slot 3 of a device, and says whether that went well.
+fn is_synced(pages: &mut MemPages) -> bool {
+    pages.sync(3).is_ok()
+}
+
+// A sync that failed once is followed by one that says `Ok`, and power that is lost takes back what
+// can be read until then. A renewal lets it last.
+fn failed_syncs_lose(rt: &impl Abort, pages: &mut MemPages) -> Result<(), Fail> {
+    for renewals in 0..2u64 {
+        fill(pages, 3, 0, 7)?;
+        pages.lose_at(1);
+        assert!(rt; !is_synced(pages) && is_synced(pages) && has_set(pages, 0, 256));
+        if renewals == 1 {
+            pages.renew(3)?;
+        }
+        pages.lose_power();
+        assert!(rt; has_set(pages, 0, 256) == (renewals == 1) && pages.renewals() == renewals);
+    }
+    Ok(())
+}
+
+#[test]
+fn a_device_loses_what_a_failed_sync_left(rt: HostRuntime) -> Result<(), Fail> {
+    let mut pages = MemPages::new(rt.alloc())?;
+    failed_syncs_lose(&rt, &mut pages)
 }
 
 // Gives slot 3 of a device this length, and tells the length that it has then.

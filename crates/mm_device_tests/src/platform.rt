@@ -5,7 +5,7 @@ ghost use Rattle.std.specs.Result.{result_err};
 ghost use Rattle.mm_platform.specs.Standing.{Plan};
 ghost use Rattle.mm_platform.specs.Calls.{read_extend_write, ActsAsTold, ActsUntold};
 
-use mm_base::CELL_LENGTH;
+use mm_bytes::CELL_LENGTH;
 use mm_digest::{Digest, zero};
 use mm_platform::{MemPlatform, Nv, Platform, Register, StepFault, Stop};
 use std::alloc::Global;

@@ -1,6 +1,6 @@
 //! The longest ledger.
 
-use mm_base::{Bytes, Memory};
+use mm_bytes::{Bytes, Memory};
 use mm_module::{Module, is_line};
 use mm_quota::Accounts;
 use std::alloc::Global;

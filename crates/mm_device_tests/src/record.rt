@@ -1,6 +1,6 @@
 //! The bytes of a record.
 
-use mm_base::{Bytes, Memory, read_decimal};
+use mm_bytes::{Bytes, Memory, read_decimal};
 use mm_store::{pending_bytes, read_pending};
 use sha2::{Digest as _, Sha256};
 use std::alloc::{AllocError, Global};

@@ -1,10 +1,10 @@
 //! Cells, offers and tickets for moves.
 
 ghost use Rattle.std.specs.Prelude.{◌≡◌, ◌≤◌, length};
-ghost use Rattle.mm_base.specs.Limits.{last_position};
+ghost use Rattle.mm_bytes.specs.Limits.{last_position};
 ghost use Rattle.mm_move.specs.Tickets.{IsAtAnchor};
 
-use mm_base::{Bytes, CELL_LENGTH, Memory};
+use mm_bytes::{Bytes, CELL_LENGTH, Memory};
 use mm_digest::{Digest, Variant, anchored, zero};
 use mm_move::{Link, Ticket, ticket_bytes};
 use mm_seal::{Body, Place, seal};

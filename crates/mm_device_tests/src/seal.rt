@@ -1,6 +1,6 @@
 //! Cells and snapshots, read as they were spelled.
 
-use mm_base::{Bytes, CELL_LENGTH, Memory, read_decimal};
+use mm_bytes::{Bytes, CELL_LENGTH, Memory, read_decimal};
 use mm_digest::{Digest, Variant};
 use mm_seal::{
     Body, Cell, CellFault, Offered, OpenFault, PartsFault, Place, cell_bytes, open, parts,

@@ -3,7 +3,7 @@
 
 ghost use Rattle.std.specs.Prelude.{◌≡◌, ◌<◌, IfOk, length};
 
-use mm_base::CELL_LENGTH;
+use mm_bytes::CELL_LENGTH;
 use mm_digest::{Digest, extended, zero};
 use mm_platform::{Nv, Platform, Register, StepFault};
 use mm_slots::SlotPlatform;

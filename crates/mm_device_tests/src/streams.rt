@@ -4,9 +4,9 @@
 ghost use Rattle.std.specs.Prelude.{None};
 
 use crate::commands::{command, replay};
-use mm_base::{Failed, Memory};
+use mm_base::{MemSink, MemSource, Sink, Source};
+use mm_bytes::{Failed, Memory};
 use mm_files::{StdSink, StdSource};
-use mm_lines::{MemSink, MemSource, Sink, Source};
 use mm_platform::MemPlatform;
 use mm_store::MemStore;
 use std::alloc::Global;

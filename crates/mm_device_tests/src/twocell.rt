@@ -1,6 +1,6 @@
 //! Writes that tear, and a register below two cells.
 
-use mm_base::{CELL_LENGTH, Memory};
+use mm_bytes::{CELL_LENGTH, Memory};
 use mm_digest::{Digest, extended, zero};
 use mm_platform::{Nv, Platform, RawNv, Register, StepFault};
 use mm_twocell::{MemRaw, TwoCell};

@@ -1,6 +1,6 @@
 //! What a driver does.
 
-use mm_base::Failed;
+use mm_bytes::Failed;
 
 /// The hardware: 209 bytes of memory that outlive a loss of power, and a register of 32 bytes. No
 /// contract says what a call does: that it does what stands here is trusted. A call that fails may

@@ -1,11 +1,11 @@
 //! A platform over a driver.
 
 ghost use Rattle.std.specs.Prelude.{◌≡◌, IfErr};
-ghost use Rattle.mm_base.specs.Faults.{CountsFaults};
+ghost use Rattle.mm_bytes.specs.Faults.{CountsFaults};
 ghost use Rattle.mm_files.specs.UntoldDevices.{none_are, untold_standing};
 
 use crate::driver::Driver;
-use mm_base::{Failed, Memory};
+use mm_bytes::{Failed, Memory};
 use mm_digest::Digest;
 use mm_platform::{Device, RawNv, Register, StepFault};
 

@@ -2,7 +2,7 @@
 use Rattle.std.proofs.Common.{◌≡◌, ℕ, List, true, [], refl, arith}
 use Rattle.std.specs.Prelude.{None, Result, Ok, Err, IfErr}
 use Rattle.std.specs.Result.{result_err}
-use Rattle.mm_base.specs.Faults.{next_count, CountsFaults}
+use Rattle.mm_bytes.specs.Faults.{next_count, CountsFaults}
 use Rattle.mm_platform.specs.declared.fault.StepFault.{StepFault}
 use Rattle.mm_platform.specs.declared.fault.StepFault.TheVariants as step
 use Rattle.mm_platform.specs.Raw.{WritesRaw}

@@ -19,16 +19,18 @@ untold_standing steps cycles faults = record {
 }
 
 -- pages of which nothing is promised, and only the faults and calls are counted: no content is
--- told, and not which slots are synced
-abbrev pub untold_pages : ℕ → ℕ → ℕ → ℕ → PageStanding
-untold_pages faults reads writes lengths = record {
+-- told, and not which slots are synced or doubtful
+abbrev pub untold_pages : ℕ → ℕ → ℕ → ℕ → ℕ → PageStanding
+untold_pages faults reads writes lengths renewals = record {
   slots = None;
   is_honest = false;
   faults = faults;
   page_reads = reads;
   page_writes = writes;
   length_writes = lengths;
+  renewals = renewals;
   unsynced = None;
+  doubtful = None;
 }
 
 -- where no bytes are told, each that are have this length

@@ -2,7 +2,7 @@
 
 use crate::name::FileName;
 use crate::reason::Reason;
-use std::io;
+use std::io::{self, ErrorKind};
 
 /// Why a call on one of the program's files failed: a reason, by the file and not by what it is
 /// called.
@@ -16,8 +16,22 @@ pub enum Cause {
         name: FileName,
         error: io::Error,
     },
-    InUse,
+    InUse {
+        name: FileName,
+    },
+    Leased {
+        name: FileName,
+    },
+    Standard {
+        name: FileName,
+    },
+    Moved {
+        name: FileName,
+    },
     NoFile {
+        name: FileName,
+    },
+    Named {
         name: FileName,
     },
     Same {
@@ -48,8 +62,12 @@ impl Cause {
                 name: name.text(),
                 error,
             },
-            Cause::InUse => Reason::InUse,
+            Cause::InUse { name } => Reason::InUse { name: name.text() },
+            Cause::Leased { name } => Reason::Leased { name: name.text() },
+            Cause::Standard { name } => Reason::Standard { name: name.text() },
+            Cause::Moved { name } => Reason::Moved { name: name.text() },
             Cause::NoFile { name } => Reason::NoFile { name: name.text() },
+            Cause::Named { name } => Reason::Named { name: name.text() },
             Cause::Same { name, other } => Reason::Same {
                 name: name.text(),
                 other: other.text(),
@@ -73,6 +91,14 @@ pub fn named<T>(name: FileName, outcome: io::Result<T>) -> Result<T, Cause> {
     match outcome {
         Ok(value) => Ok(value),
         Err(error) => Err(Cause::System { name, error }),
+    }
+}
+
+/// What came of the try to lock this file. An error where another program has.
+pub fn locked(name: FileName, outcome: io::Result<()>) -> Result<(), Cause> {
+    match outcome {
+        Err(error) if error.kind() == ErrorKind::WouldBlock => Err(Cause::InUse { name }),
+        outcome => named(name, outcome),
     }
 }
 

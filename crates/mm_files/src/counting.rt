@@ -1,10 +1,10 @@
 //! How an error of the file system is counted, and its reason kept.
 
 ghost use Rattle.std.specs.Prelude.{◌≡◌, Ok, Some, IsErr, MatchResult};
-ghost use Rattle.mm_base.specs.Faults.{next_count, CountsFaults};
+ghost use Rattle.mm_bytes.specs.Faults.{next_count, CountsFaults};
 
 use crate::reason::Reason;
-use mm_base::Failed;
+use mm_bytes::Failed;
 
 /// An outcome whose error is told as `Failed`, counted once, and kept as the last reason.
 pub fn counted<T>(

@@ -7,6 +7,7 @@ mod cause;
 mod counting;
 mod folder;
 mod kept;
+mod lease;
 mod lock;
 mod name;
 mod pages;

@@ -5,9 +5,10 @@ ghost use Rattle.mm_files.specs.UntoldDevices.{untold_pages};
 
 use crate::cause::in_words;
 use crate::counting::counted;
+use crate::lock::Lock;
 use crate::reason::Reason;
 use crate::slots::SlotFiles;
-use mm_base::{Failed, Memory};
+use mm_bytes::{Failed, Memory};
 use mm_pages::PageDevice;
 use std::alloc::Global;
 use std::os::unix::fs::FileExt;
@@ -25,12 +26,13 @@ pub struct FilePages<'a, R: Files> {
     page_reads: u64,
     page_writes: u64,
     length_writes: u64,
+    renewals: u64,
     last: Option<Reason>,
 }
 
 impl<'a, R: Files> FilePages<'a, R>
 where
-    R::File: FileExt,
+    R::File: Lock + FileExt,
 {
     /// The pages of these files. Links are followed now; no file is opened before the first call.
     pub fn new(alloc: Global, files: &'a R) -> Result<FilePages<'a, R>, Memory>
@@ -38,6 +40,7 @@ where
         ensures reads { IfOk result (λ pages. pages.page_reads ≡ 0) }
         ensures writes { IfOk result (λ pages. pages.page_writes ≡ 0) }
         ensures lengths { IfOk result (λ pages. pages.length_writes ≡ 0) }
+        ensures renewals { IfOk result (λ pages. pages.renewals ≡ 0) }
         ensures reason { IfOk result (λ pages. pages.last ≡ None) }
     {
         let slots = SlotFiles::new(alloc, files)?;
@@ -48,6 +51,7 @@ where
             page_reads: 0,
             page_writes: 0,
             length_writes: 0,
+            renewals: 0,
             last: None,
         })
     }
@@ -62,9 +66,10 @@ where
 
 impl<R: Files> PageDevice for FilePages<'_, R>
 where
-    R::File: FileExt,
+    R::File: Lock + FileExt,
 {
-    ghost pages = { λ it. untold_pages it.faults it.page_reads it.page_writes it.length_writes };
+    ghost pages = { λ it. untold_pages it.faults it.page_reads it.page_writes it.length_writes
+        it.renewals };
 
     fn length(&mut self, slot: u8) -> Result<u32, Failed> {
         let outcome = self.slots.get(slot).length(self.files);
@@ -94,6 +99,12 @@ where
 
     fn sync(&mut self, slot: u8) -> Result<(), Failed> {
         let outcome = self.slots.get(slot).sync(self.files);
+        counted(&mut self.faults, &mut self.last, in_words(outcome))
+    }
+
+    fn renew(&mut self, slot: u8) -> Result<(), Failed> {
+        self.renewals = self.renewals.saturating_add(1);
+        let outcome = self.slots.get(slot).renew(self.files);
         counted(&mut self.faults, &mut self.last, in_words(outcome))
     }
 }

@@ -3,7 +3,7 @@
 use crate::cause::{Cause, named};
 use crate::name::{FILES, FileName};
 use crate::sight::{Identity, sight_at};
-use mm_base::Memory;
+use mm_bytes::Memory;
 use std::alloc::Global;
 use std::fs::{self, OpenFile};
 use std::io::{self, ErrorKind};

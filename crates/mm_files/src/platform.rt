@@ -1,7 +1,7 @@
 //! A platform over files.
 
 ghost use Rattle.std.specs.Prelude.{◌≡◌, None, Some, IfErr, MatchResult};
-ghost use Rattle.mm_base.specs.Faults.{CountsFaults};
+ghost use Rattle.mm_bytes.specs.Faults.{CountsFaults};
 ghost use Rattle.mm_files.specs.UntoldDevices.{none_are, untold_standing};
 
 use crate::cause::in_words;
@@ -9,8 +9,8 @@ use crate::counting::counted;
 use crate::folder::Folder;
 use crate::lock::Lock;
 use crate::reason::Reason;
-use mm_base::Memory;
-use mm_digest::{Digest, zero};
+use mm_bytes::Memory;
+use mm_digest::Digest;
 use mm_platform::{Device, RawNv, Register, StepFault};
 use std::os::unix::fs::FileExt;
 use std::rt::Files;
@@ -18,8 +18,10 @@ use std::rt::Files;
 /// Non-volatile memory of 209 bytes in the file `nv`, and a register of 32 bytes in the file
 /// `register`, both of the current directory. They emulate devices that the host can't put back:
 /// whoever may write these files can. No content is told. The first call locks the directory and
-/// syncs both files; where another program holds the lock each call fails. Both files stay open.
-/// Memory is read with the byte at 208, and the next reading call tells what was read then.
+/// `nv`, and writes again and syncs what is gone on from; where another program holds a lock each
+/// call fails. Both files stay open. A call on the memory fails where the name of `nv` leads to
+/// another file then. Memory is read with the byte at 208, and the next reading call tells what was
+/// read then.
 #[derive(Drop)]
 pub struct FilePlatform<'a, R: Files> {
     files: &'a R,
@@ -34,8 +36,29 @@ impl<'a, R: Files> FilePlatform<'a, R>
 where
     R::File: Lock + FileExt,
 {
-    /// The platform over these files. None is opened before the first call.
+    /// The platform over these files. None is opened before the first call. An absent `nv` is made
+    /// where it is written.
     pub fn new(files: &'a R) -> FilePlatform<'a, R>
+        ensures steps { result.steps ≡ 0 }
+        ensures cycles { result.cycles ≡ 0 }
+        ensures faults { result.faults ≡ 0 }
+        ensures reason { result.last ≡ None }
+    {
+        FilePlatform::over(files, true)
+    }
+
+    /// The platform over these files, of which `nv` is never made: a write of an absent one fails.
+    pub fn existing(files: &'a R) -> FilePlatform<'a, R>
+        ensures steps { result.steps ≡ 0 }
+        ensures cycles { result.cycles ≡ 0 }
+        ensures faults { result.faults ≡ 0 }
+        ensures reason { result.last ≡ None }
+    {
+        FilePlatform::over(files, false)
+    }
+
+    // The platform over these files, which makes an absent `nv` or doesn't.
+    fn over(files: &'a R, makes_nv: bool) -> FilePlatform<'a, R>
         ensures steps { result.steps ≡ 0 }
         ensures cycles { result.cycles ≡ 0 }
         ensures faults { result.faults ≡ 0 }
@@ -43,7 +66,7 @@ where
     {
         FilePlatform {
             files,
-            folder: Folder::new(),
+            folder: Folder::new(makes_nv),
             steps: 0,
             cycles: 0,
             faults: 0,
@@ -103,7 +126,7 @@ where
 
     fn raw_cycle(&mut self) -> Result<(), StepFault> {
         self.cycles = self.cycles.saturating_add(1);
-        let outcome = self.folder.put_register(self.files, &zero());
+        let outcome = self.folder.reset_register(self.files);
         told(&mut self.faults, &mut self.last, in_words(outcome))
     }
 
@@ -126,7 +149,7 @@ where
 
     fn reg_reset(&mut self) -> Result<(), StepFault> {
         self.steps = self.steps.saturating_add(1);
-        let outcome = self.folder.put_register(self.files, &zero());
+        let outcome = self.folder.reset_register(self.files);
         told(&mut self.faults, &mut self.last, in_words(outcome))
     }
 

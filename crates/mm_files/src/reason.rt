@@ -21,12 +21,34 @@ pub enum Reason {
         name: &'static str,
         error: io::Error,
     },
-    /// Another program has locked the current directory.
-    #[error("nv is in use by another memoir")]
-    InUse,
-    /// A FIFO or a device is in its place.
+    /// Another program has locked it, or, of `nv`, the current directory.
+    #[error("{name} is in use by another memoir")]
+    InUse {
+        name: &'static str,
+    },
+    /// Another program holds a lease on it, which lets who opens it wait.
+    #[error("another program holds a lease on {name}")]
+    Leased {
+        name: &'static str,
+    },
+    /// It got the number of a standard stream.
+    #[error("a standard stream is closed, and {name} would take its place")]
+    Standard {
+        name: &'static str,
+    },
+    /// Its name was given to another file while it was open.
+    #[error("{name} was replaced while it was open")]
+    Moved {
+        name: &'static str,
+    },
+    /// A FIFO or a device is in its place, or, of `register`, a link.
     #[error("{name} is no regular file")]
     NoFile {
+        name: &'static str,
+    },
+    /// It has another name, which keeps an old copy where this one is given to a new file.
+    #[error("{name} has another name, which would keep an old copy of it")]
+    Named {
         name: &'static str,
     },
     /// Two names lead to one file.

@@ -13,12 +13,28 @@ pub struct Identity {
     number: u64,
 }
 
+impl Identity {
+    /// That of a number on a device of these parts, as Linux puts them into one number.
+    pub fn of_parts(major: u64, minor: u64, number: u64) -> Identity {
+        let upper = ((major & 0xffff_f000) << 32) | ((minor & 0xffff_ff00) << 12);
+        let lower = ((major & 0xfff) << 8) | (minor & 0xff);
+        Identity {
+            device: upper | lower,
+            number,
+        }
+    }
+}
+
 /// What is seen of a file or a folder.
 #[derive(Clone, Copy)]
 pub struct Sight {
     pub identity: Identity,
     pub size: u64,
+    /// How many names it has.
+    pub names: u64,
     pub is_file: bool,
+    /// Whether its owner may read and write it, by its mode.
+    pub is_open_to_owner: bool,
 }
 
 impl Sight {
@@ -30,12 +46,19 @@ impl Sight {
                 number: there.ino(),
             },
             size: there.len(),
+            names: there.nlink(),
             is_file: there.is_file(),
+            is_open_to_owner: there.mode() & 0o600 == 0o600,
         }
     }
 }
 
-/// What is seen at a path.
+/// What is seen at a path, behind the links there.
 pub fn sight_at<R: Files>(files: &R, path: &str) -> io::Result<Sight> {
     Ok(Sight::of(&fs::metadata(files, path)?))
+}
+
+/// What is seen at a path, of a link itself.
+pub fn sight_of_link<R: Files>(files: &R, path: &str) -> io::Result<Sight> {
+    Ok(Sight::of(&fs::symlink_metadata(files, path)?))
 }

@@ -1,13 +1,15 @@
 //! The files `slot0` to `slot3`.
 
-ghost use Rattle.std.specs.Prelude.{◌≤◌};
+ghost use Rattle.std.specs.Prelude.{◌≡◌, ◌≤◌, ◌-◌, ◌^◌, IfOk, min};
+ghost use Rattle.std.specs.Option.{option_map, unwrap_or};
 
 use crate::cause::Cause;
 use crate::kept::KeptFile;
+use crate::lock::Lock;
 use crate::name::FileName;
 use crate::place::{FilePlace, refuse_same};
 use crate::sight::Identity;
-use mm_base::Memory;
+use mm_bytes::Memory;
 use mm_store::Four;
 use std::alloc::Global;
 use std::fs::OpenFile;
@@ -16,6 +18,9 @@ use std::rt::Files;
 
 /// The bytes of a page.
 const PAGE: u64 = 256;
+
+/// The most bytes that are read of a slot.
+const LONGEST: u64 = 1_100_032;
 
 /// A page behind the first.
 const LATER: u16 = 1;
@@ -26,7 +31,7 @@ pub struct SlotFiles<F> {
     slots: Four<Slot<F>>,
 }
 
-impl<F: OpenFile + FileExt + Drop> SlotFiles<F> {
+impl<F: Lock + OpenFile + FileExt + Drop> SlotFiles<F> {
     /// The slots, whose links are followed now.
     pub fn new<R: Files>(alloc: Global, files: &R) -> Result<SlotFiles<F>, Memory> {
         let mut slots = SlotFiles::unfollowed(alloc);
@@ -97,7 +102,7 @@ fn name_of(claims: &Four<Option<Identity>>, file: Identity) -> Option<FileName> 
 /// The file stays open. It is looked at where page 0 is read or written, and where its length is
 /// asked: so one that others put in its place is found by whoever reads or writes the slot from the
 /// front on. What was opened is neither read nor written where it is another of the program's
-/// files.
+/// files, or another program has it open: it is locked.
 #[derive(Drop)]
 pub struct Slot<F> {
     name: FileName,
@@ -109,7 +114,7 @@ pub struct Slot<F> {
     claims: Four<Option<Identity>>,
 }
 
-impl<F: OpenFile + FileExt + Drop> Slot<F> {
+impl<F: Lock + OpenFile + FileExt + Drop> Slot<F> {
     fn new(alloc: Global, name: FileName) -> Slot<F> {
         Slot {
             name,
@@ -148,7 +153,7 @@ impl<F: OpenFile + FileExt + Drop> Slot<F> {
         }
     }
 
-    // An error where the file is another of the program's.
+    // An error where the file is another of the program's, or another program's.
     fn refuse_others<R: Files<File = F>>(&mut self, files: &R) {
         match &mut self.kept.opened {
             Some(opened) if !opened.is_alone => {
@@ -156,6 +161,7 @@ impl<F: OpenFile + FileExt + Drop> Slot<F> {
                 let identity = opened.identity;
                 let outcome = self.refuse_same(files, identity);
                 self.kept.ended(outcome);
+                self.kept.lock();
             }
             _ => {}
         }
@@ -172,16 +178,29 @@ impl<F: OpenFile + FileExt + Drop> Slot<F> {
         }
     }
 
-    /// How many bytes the slot has, none where its file is absent. What an earlier program wrote to
-    /// it is on the disk afterwards.
-    pub fn length<R: Files<File = F>>(&mut self, files: &R) -> Result<u32, Cause> {
+    /// How many bytes the slot has, none where its file is absent; the greatest number stands for
+    /// each greater one. What the file has is synced afterwards; of a renewed slot, and of that
+    /// alone, it is then on the disk.
+    pub fn length<R: Files<File = F>>(&mut self, files: &R) -> Result<u32, Cause>
+        ensures { IfOk result (λ told. told ≡ min (unwrap_or self.new.length
+            (unwrap_or (option_map (λ opened. opened.size) self.new.kept.opened) 0)) (2 ^ 32 - 1)) }
+    {
         if self.length.is_none() {
             self.find(files, 0);
             self.settle(files);
             self.kept.outcome()?;
         }
-        let length = self.length.unwrap_or(self.kept.size());
-        Ok(u32::try_from(length).unwrap_or(u32::MAX))
+        Ok(told_length(self.length.unwrap_or(self.kept.size())))
+    }
+
+    /// Writes the bytes of the slot's file once more, where this program didn't write all of them,
+    /// and lets them and its name be on the disk: so what an earlier program couldn't bring there
+    /// is there. An absent file stays so.
+    pub fn renew<R: Files<File = F>>(&mut self, files: &R) -> Result<(), Cause> {
+        self.find(files, 0);
+        self.kept.renew(LONGEST);
+        self.settle(files);
+        self.kept.outcome()
     }
 
     /// Reads a page. Bytes past the slot's end are zero.
@@ -244,6 +263,13 @@ impl<F: OpenFile + FileExt + Drop> Slot<F> {
             self.kept.ended(outcome);
         }
     }
+}
+
+// How a length is told: the greatest number stands for each greater one.
+fn told_length(length: u64) -> u32
+    ensures { result ≡ min length (2 ^ 32 - 1) }
+{
+    u32::try_from(length).unwrap_or(u32::MAX)
 }
 
 // Where a page begins.

@@ -3,12 +3,13 @@
 ghost use Rattle.std.specs.Prelude.{◌≡◌, ◌≤◌, None, IfOk, length};
 
 use crate::counting::counted;
+use crate::lease::is_leased;
 use crate::reason::{Reason, named};
-use mm_base::Failed;
-use mm_lines::Source;
+use crate::sight::sight_at;
+use mm_base::Source;
+use mm_bytes::Failed;
 use std::fs;
 use std::io::Read;
-use std::os::unix::fs::FileTypeExt;
 use std::rt::Files;
 
 /// The bytes of a file of the current directory. They aren't told.
@@ -23,7 +24,7 @@ pub struct FileSource<'a, R: Files> {
 
 impl<'a, R: Files> FileSource<'a, R> {
     /// A source over the file of this name, which is opened at the first call. Where there is none,
-    /// or a FIFO or a folder is in its place, that call fails.
+    /// or something else in its place, that call fails.
     pub fn new(files: &'a R, name: &'static str) -> FileSource<'a, R>
         ensures faults { result.faults ≡ 0 }
         ensures reason { result.last ≡ None }
@@ -44,13 +45,16 @@ impl<'a, R: Files> FileSource<'a, R> {
         self.last
     }
 
-    // Opens the file, which may be one that can't be written. A FIFO isn't opened, since that would
-    // wait.
+    // Opens the file, which may be one that can't be written. What is no file isn't opened, nor one
+    // on which another program holds a lease, since that might wait.
     fn open(&self) -> Result<R::File, Reason> {
         let name = self.name;
-        let there = named(name, fs::metadata(self.files, name))?;
-        if there.file_type().is_fifo() {
+        let there = named(name, sight_at(self.files, name))?;
+        if !there.is_file {
             return Err(Reason::NoFile { name });
+        }
+        if is_leased(self.files, there.identity) {
+            return Err(Reason::Leased { name });
         }
         named(name, fs::open(self.files, name))
     }

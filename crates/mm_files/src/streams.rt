@@ -3,8 +3,8 @@
 ghost use Rattle.std.specs.Prelude.{◌≡◌, None};
 
 use crate::reason::Reason;
-use mm_base::Failed;
-use mm_lines::{Sink, Source};
+use mm_base::{Sink, Source};
+use mm_bytes::Failed;
 use std::io::{self, ErrorKind, Read, Write};
 
 /// What the reader and the writer are called.

@@ -6,3 +6,5 @@ mod PageLaws
 mod WritingLaws
 mod ReadingLaws
 mod StepLaws
+mod RenewalLaws
+mod SheetLaws

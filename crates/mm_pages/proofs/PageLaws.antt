@@ -55,6 +55,7 @@ put_held {slot} {page} {part} {digest} {kept} {old} {new} {rows} h d k r = recor
   faults = h.counted_faults.kept;
   lengths = ap (λ (x : PageStanding). x.length_writes) h.same;
   marks = ap (λ (x : PageStanding). unsynced_slots_with_mark slot true x.unsynced) h.same;
+  sure = record { renewals = ap (λ (x : PageStanding). x.renewals) h.same; doubtful = ap (λ (x : PageStanding). x.doubtful) h.same };
   rows_are = r ∙ ap (λ (x : Digest). rows_with rows slot (row_with_digest page x (row_in rows slot))) d;
   looks = looked rows h d k;
   puts =
@@ -98,6 +99,10 @@ put_written {slot} {page} {part} {digest} {kept} {old} {mid} {new} {rows} {dropp
       marks =
           marks_alone slot true old.unsynced new.unsynced
           (ap (λ (x : PageStanding). x.unsynced) w.same ∙ ap (λ (x : PageStanding). unsynced_slots_with_mark slot true x.unsynced) h.same);
+      sure = record {
+        renewals = ap (λ (x : PageStanding). x.renewals) w.same ∙ ap (λ (x : PageStanding). x.renewals) h.same;
+        doubtful = ap (λ (x : PageStanding). x.doubtful) w.same ∙ ap (λ (x : PageStanding). x.doubtful) h.same;
+      };
       rows_are =
           s ∙ (λ j. rows_with (r.rows j) slot (alike j))
           ∙ with_row-twice rows slot r.row (row_with_digest page (page_digest part) (row_in rows slot));
@@ -124,6 +129,8 @@ look_failed {slot} {old = old} {new = new} rows h = record {
     faults = h.counted_faults.failed;
     leaves = λ honest. let stay = slots_stay slot old.slots in (stay.0, ap (λ (x : PageStanding). x.slots) h.same ∙ stay.1);
     marks = ap (λ (x : PageStanding). unsynced_slots_with_mark slot true x.unsynced) h.same;
+    renewals = ap (λ (x : PageStanding). x.renewals) h.same;
+    doubts = ap (λ (x : PageStanding). unsynced_slots_with_mark slot true x.doubtful) h.same;
   };
   row = row_in rows slot;
   rows_are = sym (with_row-same rows slot);

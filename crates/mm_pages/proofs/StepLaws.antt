@@ -1,6 +1,6 @@
 -- Digests that are those of what the device has.
 use Rattle.std.proofs.lemmas.Bool.Decides.{nat_tests}
-use Rattle.mm_pages.proofs.Below.{ℕ, ◌≡◌, ◌-◌, zero, suc, Option, Some, None, List, [], ◌∷◌, length, get_or, ap, sym, ◌∙◌, subst, inl, inr}
+use Rattle.mm_pages.proofs.Below.{ℕ, ◌≡◌, ◌-◌, true, zero, suc, Option, Some, None, List, [], ◌∷◌, length, get_or, ap, sym, ◌∙◌, subst, inl, inr}
 use Rattle.mm_pages.proofs.Below.{arith, cases_lt, get_or_append_left, get_or-append_right, Digest, Slots, slots_with, slots_with_bytes}
 use Rattle.mm_pages.proofs.Below.{page_of, page_count, PageStanding, Rows, rows_with, page_digest, digests_of_pages, PutsWholeSlot}
 use Rattle.mm_pages.proofs.Below.{AreDigestsOf, AreInStep, KeepsStep}
@@ -40,6 +40,12 @@ step_after slot {rows} {after} row bytes {was = was} {now = now} r s e f k h =
     let same : slots_with was slot bytes ≡ now = cc in
     subst (λ (x : Rows). AreInStep x now) (sym r)
     (subst (λ (x : Slots). AreInStep (rows_with rows slot row) x) same (step_with slot rows was row bytes h k))
+
+-- a slot of which no digest is kept any more
+pub step_left : (slot : ℕ) (rows after : Rows) (old new : PageStanding) → after ≡ rows_with rows slot [] →
+    (old.is_honest ≡ true → (left : List ℕ) × (new.slots ≡ slots_with_bytes slot left old.slots)) → KeepsStep old new rows after
+step_left slot rows after old new r leaves honest was now e f h =
+    let l = leaves honest in step_after slot [] l.0 r l.1 e f (λ page digest k. absurd (cc)) h
 
 pub step_written : {slot : ℕ} {bytes : List ℕ} {old new : PageStanding} {rows after : Rows} → PutsWholeSlot slot bytes old new rows after →
     KeepsStep old new rows after

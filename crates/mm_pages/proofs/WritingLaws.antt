@@ -20,6 +20,7 @@ puts_none slot bytes paged rows = record {
   faults = refl;
   lengths = refl;
   marks = refl;
+  sure = record { renewals = refl; doubtful = refl };
   rows_are = sym (with_row-same rows slot);
   looks = refl;
   fills = λ honest. stays slot (IsFilled 0 bytes) paged.slots
@@ -88,6 +89,7 @@ puts_more {slot} {count} {bytes} {old} {mid} {new} {rows} {some} f p =
       faults = p.faults ∙ f.faults;
       lengths = p.lengths ∙ f.lengths;
       marks = p.marks ∙ f.marks;
+      sure = record { renewals = p.sure.renewals ∙ f.sure.renewals; doubtful = p.sure.doubtful ∙ f.sure.doubtful };
       rows_are =
           p.rows_are ∙ (λ j. rows_with (f.rows_are j) slot (more j))
           ∙ with_row-twice rows slot (firsts ++ drop count row) (digests_of_pages bytes (suc count) ++ drop (suc count) row);
@@ -131,6 +133,8 @@ fails_after {slot} {old = old} {new = new} {rows = rows} f g = record {
         λ honest.
         let later = g.paged.leaves (f.honest ∙ honest) in (later.0, then_left slot old.slots (left_by (f.fills honest)) later);
     marks = g.paged.marks ∙ f.marks;
+    renewals = g.paged.renewals ∙ f.sure.renewals;
+    doubts = g.paged.doubts ∙ ap (unsynced_slots_with_mark slot true) f.sure.doubtful;
   };
   row = g.row;
   rows_are = g.rows_are ∙ ap (λ (x : Rows). rows_with x slot g.row) f.rows_are ∙ with_row-twice rows slot _ g.row;
@@ -154,6 +158,7 @@ fits_already {slot} {size} {old = old} {new = new} r e = record {
   slots =
       λ honest. ap (λ (x : PageStanding). x.slots) r.same ∙ length_stays slot size old.slots (λ told f. sym (r.gives told f) ∙ e);
   marks = ap (λ (x : PageStanding). unsynced_slots_with_mark slot true x.unsynced) r.same;
+  sure = record { renewals = ap (λ (x : PageStanding). x.renewals) r.same; doubtful = ap (λ (x : PageStanding). x.doubtful) r.same };
 }
 
 pub length_failed : {slot : ℕ} {old new : PageStanding} {fault : Failed} → ReadsLength slot old new (Err fault) → SlotFails slot old new
@@ -162,6 +167,8 @@ length_failed {slot} {old} {new} r = record {
   faults = r.counted_faults.failed;
   leaves = λ honest. let stay = slots_stay slot old.slots in (stay.0, ap (λ (x : PageStanding). x.slots) r.same ∙ stay.1);
   marks = ap (λ (x : PageStanding). unsynced_slots_with_mark slot true x.unsynced) r.same;
+  renewals = ap (λ (x : PageStanding). x.renewals) r.same;
+  doubts = ap (λ (x : PageStanding). unsynced_slots_with_mark slot true x.doubtful) r.same;
 }
 
 -- a length that is fitted, and then synced or not
@@ -180,6 +187,10 @@ fits_synced slot size old mid new (Err fault) f s = record {
       );
   marks =
       marks_alone slot true mid.unsynced new.unsynced (ap (λ (x : PageStanding). x.unsynced) s.same) ∙ f.marks;
+  renewals = ap (λ (x : PageStanding). x.renewals) s.same ∙ f.sure.renewals;
+  doubts =
+      marks_alone slot true mid.doubtful new.doubtful (ap (λ (x : PageStanding). x.doubtful) s.same)
+      ∙ ap (unsynced_slots_with_mark slot true) f.sure.doubtful;
 }
 
 -- what is in a slot whose pages are those of the bytes, once it has their length
@@ -212,6 +223,10 @@ puts_all {slot} {bytes} {old} {mid} {new} {rows} {some} f r ends =
       synced =
           marked_last slot false old.unsynced ends.fitted.unsynced new.unsynced (g.marks ∙ f.marks)
           (ap (λ (x : PageStanding). x.unsynced) s.same);
+      sure = record {
+        renewals = ap (λ (x : PageStanding). x.renewals) s.same ∙ g.sure.renewals ∙ f.sure.renewals;
+        doubtful = ap (λ (x : PageStanding). x.doubtful) s.same ∙ g.sure.doubtful ∙ f.sure.doubtful;
+      };
       rows_are =
           r ∙ (λ j. rows_with (f.rows_are j) slot (cut j))
           ∙ with_row-twice rows slot _ (digests_of_pages bytes count);

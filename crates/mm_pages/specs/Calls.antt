@@ -2,10 +2,10 @@
 use Rattle.std.specs.Prelude.{◌≡◌, ℕ, true, List, length, Option, Some, Result, Ok, Err, IfOk, OnOk}
 use Rattle.std.specs.Option.{option_map}
 use Rattle.std.specs.Result.{is_err}
-use Rattle.mm_base.specs.declared.fault.Failed.{Failed}
-use Rattle.mm_base.specs.Faults.{next_count, CountsFaults}
+use Rattle.mm_bytes.specs.declared.fault.Failed.{Failed}
+use Rattle.mm_bytes.specs.Faults.{next_count, CountsFaults}
 use Rattle.mm_store.specs.Slots.{Slots, slot_in, slots_with}
-use Rattle.mm_store.specs.UnsyncedSlots.{unsynced_slots_with_mark}
+use Rattle.mm_store.specs.UnsyncedSlots.{UnsyncedSlots, unsynced_slots_with_mark}
 use Rattle.mm_store.specs.Calls.{slots_with_bytes}
 use Rattle.mm_pages.specs.Bytes.{resized_bytes, page_of, bytes_with_page}
 use Rattle.mm_pages.specs.PageStanding.{PageStanding}
@@ -37,6 +37,11 @@ abbrev pub LeavesSlot : ℕ → (List ℕ → List ℕ) → Option Slots → Opt
 LeavesSlot slot change old new (Ok _) = new ≡ slots_with_change slot change old
 LeavesSlot slot change old new (Err _) = (left : List ℕ) × (new ≡ slots_with_bytes slot left old)
 
+-- which slots are doubtful after a change or a sync of one: where it failed, that one too
+abbrev pub doubtful_after : ℕ → Option UnsyncedSlots → Result Unit Failed → Option UnsyncedSlots
+doubtful_after slot marks (Ok _) = marks
+doubtful_after slot marks (Err _) = unsynced_slots_with_mark slot true marks
+
 -- a write of a page leaves its slot unsynced, whether it fails or not
 pub record WritesPage (slot page : ℕ) (part : List ℕ) (old new : PageStanding)
     (result : Result Unit Failed) : Type 0 where
@@ -45,6 +50,7 @@ pub record WritesPage (slot page : ℕ) (part : List ℕ) (old new : PageStandin
     faults = new.faults;
     page_writes = next_count old.page_writes;
     unsynced = unsynced_slots_with_mark slot true old.unsynced;
+    doubtful = doubtful_after slot old.doubtful result;
   }
   pub counted_faults : CountsFaults old.faults new.faults result
   pub leaves : old.is_honest ≡ true
@@ -58,6 +64,7 @@ pub record SetsLength (slot size : ℕ) (old new : PageStanding)
     faults = new.faults;
     length_writes = next_count old.length_writes;
     unsynced = unsynced_slots_with_mark slot true old.unsynced;
+    doubtful = doubtful_after slot old.doubtful result;
   }
   pub counted_faults : CountsFaults old.faults new.faults result
   pub leaves : old.is_honest ≡ true → LeavesSlot slot (resized_bytes size)
@@ -76,6 +83,18 @@ pub record SyncsPages (slot : ℕ) (old new : PageStanding)
     slots = new.slots;
     faults = new.faults;
     unsynced = unsynced_slots_with_mark slot (is_err result) old.unsynced;
+    doubtful = doubtful_after slot old.doubtful result;
   }
   pub counted_faults : CountsFaults old.faults new.faults result
   pub leaves : old.is_honest ≡ true → KeepsSlot slot old.slots new.slots result
+
+-- a renewal changes no slot, as the same bytes are written; after Ok its slot is doubtful no more,
+-- and after a renewal that failed it is
+pub record RenewsSlot (slot : ℕ) (old new : PageStanding)
+    (result : Result Unit Failed) : Type 0 where
+  pub same : new ≡ record old {
+    faults = new.faults;
+    renewals = next_count old.renewals;
+    doubtful = unsynced_slots_with_mark slot (is_err result) old.doubtful;
+  }
+  pub counted_faults : CountsFaults old.faults new.faults result

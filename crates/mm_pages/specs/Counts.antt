@@ -1,7 +1,7 @@
 -- Which pages a write reads back, and which it writes.
 use Rattle.std.specs.Prelude.{ℕ, ◌+◌, zero, suc, Bool, true, List, Option, Some, None, if◌then◌else◌}
 use Rattle.std.specs.Str.{bytes_eq}
-use Rattle.mm_base.specs.Faults.{next_count}
+use Rattle.mm_bytes.specs.Faults.{next_count}
 use Rattle.mm_digest.specs.declared.digest.Digest.{Digest}
 use Rattle.mm_pages.specs.Bytes.{page_of}
 use Rattle.mm_pages.specs.Rows.{kept_digest, page_digest}

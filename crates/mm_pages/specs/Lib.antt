@@ -5,5 +5,6 @@ pub mod Counts
 pub mod Rows
 pub mod SlotWrites
 pub mod SlotReads
+pub mod Renewal
 pub mod CachedDevice
 pub mod Sheets

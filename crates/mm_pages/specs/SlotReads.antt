@@ -1,7 +1,7 @@
 -- What the steps of a read do to a device of pages, and what they give.
 use Rattle.std.specs.Prelude.{◌≡◌, ◌≤◌, ℕ, List, length, take, Some, Result, IfOk, OnOk}
-use Rattle.mm_base.specs.declared.fault.Failed.{Failed}
-use Rattle.mm_base.specs.Faults.{CountsFaults}
+use Rattle.mm_bytes.specs.declared.fault.Failed.{Failed}
+use Rattle.mm_bytes.specs.Faults.{CountsFaults}
 use Rattle.mm_store.specs.declared.fault.StoreFault.{StoreFault}
 use Rattle.mm_store.specs.Slots.{Slots, slot_in, slot_front}
 use Rattle.mm_store.specs.Calls.{CountsFailures}

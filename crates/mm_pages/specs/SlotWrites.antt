@@ -2,8 +2,8 @@
 use Rattle.std.specs.Prelude.{◌≡◌, ◌⊎◌, ◌<◌, ◌≤◌, ◌+◌, ◌*◌, ℕ, Bool, true, false, ◌&&◌, List, ◌++◌, drop, length, slice_index, Option, Some}
 use Rattle.std.specs.Prelude.{Result, Ok, Err, IfOk}
 use Rattle.std.specs.Str.{bytes_eq}
-use Rattle.mm_base.specs.declared.fault.Failed.{Failed}
-use Rattle.mm_base.specs.Faults.{next_count, CountRose, CountsFaults}
+use Rattle.mm_bytes.specs.declared.fault.Failed.{Failed}
+use Rattle.mm_bytes.specs.Faults.{next_count, CountRose, CountsFaults}
 use Rattle.mm_digest.specs.declared.digest.Digest.{Digest}
 use Rattle.mm_store.specs.Slots.{Slots, slot_in}
 use Rattle.mm_store.specs.UnsyncedSlots.{unsynced_slots_with_mark, MarksSlotAlone}
@@ -46,13 +46,21 @@ pub record IsPutIn (at size : ℕ) (part was now : List ℕ) : Type 0 where
 abbrev pub IsPutAt : ℕ → List ℕ → List ℕ → List ℕ → Type 0
 IsPutAt page part was now = IsPutIn (256 * page) 256 part was now
 
--- a slot of a device that failed: its slot has any bytes if it is honest, and no other slot changed
+-- no slot was renewed, and none became doubtful
+pub record StaysSure (old new : PageStanding) : Type 0 where
+  pub renewals : new.renewals ≡ old.renewals
+  pub doubtful : new.doubtful ≡ old.doubtful
+
+-- a slot of a device that failed: its slot has any bytes if it is honest, and may be doubtful; no
+-- other slot changed, and none was renewed
 pub record SlotFails (slot : ℕ) (old new : PageStanding) : Type 0 where
   pub honest : new.is_honest ≡ old.is_honest
   pub faults : CountRose old.faults new.faults
   pub leaves : old.is_honest ≡ true
       → (left : List ℕ) × (new.slots ≡ slots_with_bytes slot left old.slots)
   pub marks : MarksSlotAlone slot old.unsynced new.unsynced
+  pub renewals : new.renewals ≡ old.renewals
+  pub doubts : MarksSlotAlone slot old.doubtful new.doubtful
 
 -- a write that failed: of the digests, none but those of its slot changed
 pub record WriteFails (slot : ℕ) (old new : PageStanding) (rows after : Rows) : Type 0 where
@@ -80,6 +88,7 @@ pub record PutsOnePage (slot page : ℕ) (part : List ℕ) (old new : PageStandi
     pub faults : new.faults ≡ old.faults
     pub lengths : new.length_writes ≡ old.length_writes
     pub marks : MarksSlotAlone slot old.unsynced new.unsynced
+    pub sure : StaysSure old new
     pub rows_are : after ≡ rows_with rows slot
         (row_with_digest page (page_digest part) (row_in rows slot))
     pub looks : new.page_reads ≡ count_after_so_many
@@ -106,6 +115,7 @@ pub record PutsFirstPages (slot count : ℕ) (bytes : List ℕ) (old new : PageS
   pub faults : new.faults ≡ old.faults
   pub lengths : new.length_writes ≡ old.length_writes
   pub marks : MarksSlotAlone slot old.unsynced new.unsynced
+  pub sure : StaysSure old new
   pub rows_are : after ≡ rows_with rows slot
       (digests_of_pages bytes count ++ drop count (row_in rows slot))
   pub looks : new.page_reads ≡ count_after_so_many (total_of_looks (row_in rows slot) bytes count)
@@ -137,6 +147,7 @@ pub record FitsSlot (slot size : ℕ) (old new : PageStanding) : Type 0 where
   pub slots : old.is_honest ≡ true → new.slots ≡ slots_with_change slot
       (resized_bytes size) old.slots
   pub marks : MarksSlotAlone slot old.unsynced new.unsynced
+  pub sure : StaysSure old new
 
 abbrev pub FitsLength : ℕ → ℕ → PageStanding → PageStanding → Result Unit Failed → Type 0
 FitsLength slot size old new (Ok _) = FitsSlot slot size old new
@@ -160,6 +171,7 @@ pub record PutsWholeSlot (slot : ℕ) (bytes : List ℕ) (old new : PageStanding
     pub faults : new.faults ≡ old.faults
     pub lengths : IsOneMoreAtMost old.length_writes new.length_writes
     pub synced : new.unsynced ≡ unsynced_slots_with_mark slot false old.unsynced
+    pub sure : StaysSure old new
     pub rows_are : after ≡ rows_with rows slot (digests_of_pages bytes (page_count (length bytes)))
     pub looks : new.page_reads ≡ count_after_so_many
         (total_of_looks (row_in rows slot) bytes (page_count (length bytes))) old.page_reads

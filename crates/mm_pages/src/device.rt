@@ -2,17 +2,19 @@
 
 ghost use Rattle.std.specs.Prelude.{◌<◌, ◌≤◌};
 ghost use Rattle.mm_pages.specs.PageStanding.{PageStanding};
-ghost use Rattle.mm_pages.specs.Calls.{ReadsLength, ReadsPage, WritesPage, SetsLength, SyncsPages};
+ghost use Rattle.mm_pages.specs.Calls.{ReadsLength, ReadsPage, WritesPage, SetsLength, SyncsPages, RenewsSlot};
 
-use mm_base::Failed;
+use mm_bytes::Failed;
 
 /// Four slots, numbered from 0 to 3, each a list of at most 1,100,032 bytes that is read and
 /// written by pages of 256. Bytes past a slot's end read as zero. What is written may wait to be on
-/// the disk until the slot is synced.
+/// the disk until the slot is synced. A system tells of a write to the disk that failed once: a
+/// later sync says `Ok`, and writes nothing of it, though it can still be read. So once a change or
+/// a sync failed, in an earlier program too, a slot is doubtful until it is renewed.
 ///
 /// `pages` is what the device holds: the slots where it tells them, whether it is honest, its
-/// counts of faults and of calls, and, where it is told, which slots have changes that were not
-/// synced.
+/// counts of faults and of calls, and, where it is told, which slots were changed and not synced
+/// since, and which are doubtful.
 pub trait PageDevice {
     ghost pages: { Self → PageStanding };
 
@@ -41,9 +43,15 @@ pub trait PageDevice {
         requires most { length ≤ 1100032 }
         ensures sets { SetsLength slot length (pages self.old) (pages self.new) result };
 
-    /// Lets what was written to the slot be on the disk. After `Failed` the slot may have any
-    /// bytes.
+    /// Lets what was written to the slot be on the disk, of a doubtful one not all. After `Failed`
+    /// the slot may have any bytes.
     fn sync(&mut self, slot: u8) -> Result<(), Failed>
         requires { slot < 4 }
         ensures syncs { SyncsPages slot (pages self.old) (pages self.new) result };
+
+    /// Writes once more what the slot has, in place, and lets all of it be on the disk. The slot
+    /// stays as it is, after `Failed` too.
+    fn renew(&mut self, slot: u8) -> Result<(), Failed>
+        requires { slot < 4 }
+        ensures renews { RenewsSlot slot (pages self.old) (pages self.new) result };
 }

@@ -3,7 +3,7 @@
 ghost use Rattle.std.specs.Prelude.{◌≡◌, ◌<◌, ◌≤◌, ◌+◌, [], take, drop, length, Some, None, IfOk};
 ghost use Rattle.mm_pages.specs.Rows.{no_rows, row_in, rows_with, kept_digest, row_with_digest, DropsPage};
 
-use mm_base::Memory;
+use mm_bytes::Memory;
 use mm_digest::Digest;
 use mm_store::Four;
 use std::alloc::Global;

@@ -6,6 +6,7 @@ mod digests;
 mod memory;
 mod page;
 mod reading;
+mod renewal;
 mod store;
 mod writing;
 

@@ -1,16 +1,16 @@
 //! A device of pages in memory, which fails as it is told to and not otherwise.
 
-ghost use Rattle.std.specs.Prelude.{◌≡◌, ◌↔◌, ◌<◌, ◌≤◌, ◌+◌, ◌++◌, IsTrue, IsErr, [], OnOk, OnErr, IfOk, length, take, drop, if◌then◌else◌};
-ghost use Rattle.mm_base.specs.Faults.{next_count};
-ghost use Rattle.mm_store.specs.Slots.{slots_of};
+ghost use Rattle.std.specs.Prelude.{◌≡◌, ◌↔◌, ◌<◌, ◌≤◌, ◌+◌, ◌++◌, IsTrue, IsErr, [], true, false, OnOk, OnErr, IfOk, length, take, drop, if◌then◌else◌};
+ghost use Rattle.mm_bytes.specs.Faults.{next_count};
+ghost use Rattle.mm_store.specs.Slots.{slots_of, slot_in, slots_with};
 ghost use Rattle.mm_store.specs.UnsyncedSlots.{is_unsynced_in};
 ghost use Rattle.mm_pages.specs.Bytes.{resized_bytes, bytes_with_page};
-ghost use Rattle.mm_pages.specs.Calls.{ReadsLength, ReadsPage, WritesPage, SetsLength, SyncsPages};
-ghost use Rattle.mm_pages.specs.Sheets.{blank_sheets, standing_of_sheets, sheets_after_call, sheets_after_fault, sheets_after_slot_fault, sheets_after_read, sheets_after_change, sheets_after_sync};
+ghost use Rattle.mm_pages.specs.Calls.{ReadsLength, ReadsPage, WritesPage, SetsLength, SyncsPages, RenewsSlot};
+ghost use Rattle.mm_pages.specs.Sheets.{blank_sheets, standing_of_sheets, sheets_after_call, sheets_after_fault, sheets_after_slot_fault, sheets_after_read, sheets_after_change, sheets_after_sync, sheets_after_renewal, sheets_after_power_loss, lasting_with};
 
 use crate::device::PageDevice;
 use crate::page::{PAGE, page_of};
-use mm_base::{Failed, Memory};
+use mm_bytes::{Failed, Memory};
 use mm_store::Four;
 use std::alloc::Global;
 use std::marker::Model;
@@ -103,17 +103,23 @@ fn empty_slots(alloc: Global) -> Result<Four<Sheet>, Memory>
     Ok(Four::new(zero, one, two, three))
 }
 
-/// An honest device of pages in memory, which contracts see as sheets. It tells its slots.
+/// An honest device of pages in memory, which contracts see as sheets. It tells its slots, and has
+/// what a loss of power leaves of them: what a slot had when it was last synced or renewed. A sync
+/// of a doubtful slot says `Ok`, and lets nothing more of it last.
 #[derive(Drop)]
 pub struct MemPages {
     alloc: Global,
     slots: Four<Sheet>,
+    lasting: Four<Sheet>,
     faults: u64,
     page_reads: u64,
     page_writes: u64,
     length_writes: u64,
+    renewals: u64,
     unsynced: Four<bool>,
+    doubtful: Four<bool>,
     ahead: u64,
+    stays: bool,
     leaves: Vec<u8>,
 }
 
@@ -127,12 +133,16 @@ impl Model for MemPages {
 
     ghost view = { λ p. record {
       slots = slots_of p.slots;
+      lasting = slots_of p.lasting;
       faults = p.faults;
       page_reads = p.page_reads;
       page_writes = p.page_writes;
       length_writes = p.length_writes;
+      renewals = p.renewals;
       unsynced = unsynced_slots_of p.unsynced;
+      doubtful = unsynced_slots_of p.doubtful;
       ahead = p.ahead;
+      stays = p.stays;
       leaves = p.leaves.items;
     } };
 
@@ -146,15 +156,20 @@ impl MemPages {
         ensures { IfOk result (λ pages. pages ≡ blank_sheets) }
     {
         let slots = empty_slots(alloc)?;
+        let lasting = empty_slots(alloc)?;
         Ok(MemPages {
             alloc,
             slots,
+            lasting,
             faults: 0,
             page_reads: 0,
             page_writes: 0,
             length_writes: 0,
+            renewals: 0,
             unsynced: Four::new(false, false, false, false),
+            doubtful: Four::new(false, false, false, false),
             ahead: 0,
+            stays: false,
             leaves: Vec::new(alloc),
         })
     }
@@ -165,12 +180,34 @@ impl MemPages {
     pub fn stop_at(&mut self, call: u64, leaves: &[u8]) -> Result<(), Memory>
         requires { length leaves.now ≤ 1100032 }
         ensures ok { OnOk result
-            (self.new ≡ record self.old { ahead = call; leaves = leaves.now }) }
+            (self.new ≡ record self.old { ahead = call; stays = false; leaves = leaves.now }) }
         ensures err { OnErr result (self.new ≡ self.old) }
     {
         self.leaves = Vec::from_slice(self.alloc, leaves)?;
         self.ahead = call;
+        self.stays = false;
         Ok(())
+    }
+
+    /// The same, but a call that fails so leaves its slot as it is, as a system does that lost what
+    /// it was to write: all can be read, and later syncs say `Ok`.
+    pub fn lose_at(&mut self, call: u64)
+        ensures { self.new ≡ record self.old { ahead = call; stays = true } }
+    {
+        self.ahead = call;
+        self.stays = true;
+    }
+
+    /// The power is lost: each slot has what lasts.
+    pub fn lose_power(&mut self)
+        ensures { self.new ≡ sheets_after_power_loss self.old }
+    {
+        self.put_back(0);
+        self.put_back(1);
+        self.put_back(2);
+        self.put_back(3);
+        self.unsynced = Four::new(false, false, false, false);
+        self.doubtful = Four::new(false, false, false, false);
     }
 
     /// How many reads of pages were called.
@@ -194,12 +231,30 @@ impl MemPages {
         self.length_writes
     }
 
-    /// Whether a slot has changes that were not synced.
+    /// How many times a slot was renewed.
+    pub fn renewals(&self) -> u64
+        ensures { result ≡ self.now.renewals }
+    {
+        self.renewals
+    }
+
+    /// Whether a slot was changed and not synced since.
     pub fn is_unsynced(&self, slot: u8) -> bool
         requires { slot < 4 }
         ensures { result ≡ is_unsynced_in self.now.unsynced slot }
     {
         *self.unsynced.get(slot)
+    }
+
+    // Puts what lasts of a slot in place of what it has.
+    fn put_back(&mut self, slot: u8)
+        requires { slot < 4 }
+        ensures { self.new ≡ record self.old {
+          slots = slots_with self.old.slots slot (slot_in self.old.lasting slot);
+        } }
+    {
+        let bytes = self.lasting.get(slot);
+        self.slots.get_mut(slot).set(bytes.as_slice());
     }
 
     // Begins a call, and tells whether it is the one that is to fail.
@@ -217,7 +272,8 @@ impl MemPages {
         fails
     }
 
-    // Begins a call that changes a slot. Where it is to fail, it leaves there what it was told to.
+    // Begins a call that changes or syncs a slot. Where it is to fail, it leaves there what it was
+    // told to, and the slot is doubtful.
     fn is_to_fail_in(&mut self, slot: u8) -> bool
         requires { slot < 4 }
         ensures fails { IsTrue result ↔ (self.old.ahead ≡ 1) }
@@ -229,9 +285,21 @@ impl MemPages {
         if !self.is_to_fail() {
             return false;
         }
-        self.slots.get_mut(slot).set(self.leaves.as_slice());
+        if !self.stays {
+            self.slots.get_mut(slot).set(self.leaves.as_slice());
+        }
         *self.unsynced.get_mut(slot) = true;
+        *self.doubtful.get_mut(slot) = true;
         true
+    }
+
+    // Lets what a slot has last.
+    fn last(&mut self, slot: u8)
+        requires { slot < 4 }
+        ensures { self.new ≡ record self.old { lasting = lasting_with slot self.old } }
+    {
+        let bytes = self.slots.get(slot);
+        self.lasting.get_mut(slot).set(bytes.as_slice());
     }
 }
 
@@ -321,7 +389,29 @@ impl PageDevice for MemPages {
         if self.is_to_fail_in(slot) {
             return Err(Failed);
         }
+        if !*self.doubtful.get(slot) {
+            self.last(slot);
+        }
         *self.unsynced.get_mut(slot) = false;
+        Ok(())
+    }
+
+    fn renew(&mut self, slot: u8) -> Result<(), Failed>
+        requires { slot < 4 }
+        ensures renews { RenewsSlot slot (standing_of_sheets self.old)
+            (standing_of_sheets self.new) result }
+        ensures failing { IsErr result ↔ (self.old.ahead ≡ 1) }
+        ensures after { self.new ≡ record (sheets_after_renewal slot self.old result) {
+          renewals = next_count self.old.renewals;
+        } }
+    {
+        self.renewals = self.renewals.saturating_add(1);
+        let fails = self.is_to_fail();
+        *self.doubtful.get_mut(slot) = fails;
+        if fails {
+            return Err(Failed);
+        }
+        self.last(slot);
         Ok(())
     }
 }

@@ -2,20 +2,36 @@
 
 ghost use Rattle.std.specs.Prelude.{◌≡◌, ◌<◌, ◌≤◌, []};
 ghost use Rattle.mm_store.specs.declared.store.TheConstants.{LONGEST_SLOT};
+ghost use Rattle.mm_store.specs.UnsyncedSlots.{unsynced_slots_of};
+ghost use Rattle.mm_pages.specs.Renewal.{ReadsRenewed};
 ghost use Rattle.mm_pages.specs.SlotReads.{GivesBytes, GivesPages, GivesSize};
 
 use crate::device::PageDevice;
 use crate::page::{PAGE, page_count};
-use mm_base::{Bytes, Failed};
-use mm_store::{LONGEST_SLOT, StoreFault};
+use crate::renewal::renew_due;
+use mm_bytes::{Bytes, Failed};
+use mm_store::{Four, LONGEST_SLOT, StoreFault};
 use std::alloc::Global;
 
-// The first 1,100,000 bytes of a slot.
-pub fn read_bytes<D: PageDevice>(
+// The first 1,100,000 bytes of a slot, which is renewed before where it is due.
+pub fn read_renewed<D: PageDevice>(
     device: &mut D,
+    due: &mut Four<bool>,
     alloc: Global,
     slot: u8,
 ) -> Result<Bytes, StoreFault>
+    requires { slot < 4 }
+    ensures { ReadsRenewed slot (unsynced_slots_of due.old) (unsynced_slots_of due.new)
+        (D.pages device.old) (D.pages device.new) result }
+{
+    match renew_due(device, due, slot) {
+        Ok(()) => read_bytes(device, alloc, slot),
+        Err(_) => Err(StoreFault::Failed),
+    }
+}
+
+// The first 1,100,000 bytes of a slot.
+fn read_bytes<D: PageDevice>(device: &mut D, alloc: Global, slot: u8) -> Result<Bytes, StoreFault>
     requires { slot < 4 }
     ensures { GivesBytes slot (D.pages device.old) (D.pages device.new) result }
 {

@@ -2,20 +2,43 @@
 
 ghost use Rattle.std.specs.Prelude.{◌≡◌, ◌<◌, ◌≤◌, length};
 ghost use Rattle.mm_store.specs.declared.store.TheConstants.{LONGEST_SLOT};
+ghost use Rattle.mm_store.specs.UnsyncedSlots.{unsynced_slots_of};
 ghost use Rattle.mm_pages.specs.Counts.{may_be_same};
+ghost use Rattle.mm_pages.specs.Renewal.{WritesRenewed};
 ghost use Rattle.mm_pages.specs.Rows.{row_in};
 ghost use Rattle.mm_pages.specs.SlotWrites.{HoldsPage, PutsPage, PutsAllPages, FitsLength, EndsInSync, PutsBytes};
 
 use crate::device::PageDevice;
 use crate::digests::SlotDigests;
 use crate::page::{page_count, page_of};
-use mm_base::Failed;
+use crate::renewal::renew_due;
+use mm_bytes::Failed;
 use mm_digest::Digest;
+use mm_store::Four;
 use sha2::{Digest as _, Sha256};
 
-// Puts these bytes in place of a slot's, page by page. After `Failed` its digests are not to be
-// used.
-pub fn put_bytes<D: PageDevice>(
+// Puts these bytes in place of a slot's, which is renewed before where it is due. After `Failed`
+// its digests are not to be used.
+pub fn put_renewed<D: PageDevice>(
+    device: &mut D,
+    digests: &mut SlotDigests,
+    due: &mut Four<bool>,
+    slot: u8,
+    bytes: &[u8],
+) -> Result<(), Failed>
+    requires slot { slot < 4 }
+    requires short { length bytes.now ≤ LONGEST_SLOT }
+    ensures { WritesRenewed slot bytes.now (unsynced_slots_of due.old) (unsynced_slots_of due.new)
+        (D.pages device.old) (D.pages device.new) digests.old digests.new result }
+{
+    match renew_due(device, due, slot) {
+        Ok(()) => put_bytes(device, digests, slot, bytes),
+        Err(fault) => Err(fault),
+    }
+}
+
+// Puts these bytes in place of a slot's, page by page.
+fn put_bytes<D: PageDevice>(
     device: &mut D,
     digests: &mut SlotDigests,
     slot: u8,

@@ -1,6 +1,6 @@
 //! What a process runs.
 
-use mm_lines::{Sink, Source};
+use mm_base::{Sink, Source};
 use mm_platform::Platform;
 use mm_status::Status;
 use mm_store::Store;

@@ -1,5 +1,9 @@
-//! Why the program stopped: a line for people on standard error, none where all was done.
+//! Why the program stopped: a line for people on standard error. Where all was done there is one
+//! behind `init` alone, of what it wrote over.
 
+use crate::bad_line::say_bad_line;
+use crate::kept::KeptText;
+use crate::usage::say_usage;
 use mm_files::Reason;
 use mm_model::Refusal;
 use mm_status::Status;
@@ -16,9 +20,12 @@ pub struct Reasons {
 }
 
 /// Says why the program stopped. Where that can't be written nothing more is done.
-pub fn say(rt: &HostRuntime, words: &[&str], status: Status, reasons: &Reasons) {
+pub fn say(rt: &HostRuntime, words: &[&str], status: Status, reasons: &Reasons, input: &KeptText) {
     let command = words.first().copied().unwrap_or("");
     let _ = match status {
+        Status::Done if command == "init" => {
+            eprint!(rt; "made in this folder; what slot0 to slot3 held is written over\n")
+        }
         Status::Done => Ok(()),
         Status::PlatformFault => say_reason(rt, &reasons.platform),
         Status::StoreFault => say_reason(rt, &reasons.store),
@@ -26,14 +33,12 @@ pub fn say(rt: &HostRuntime, words: &[&str], status: Status, reasons: &Reasons) 
         Status::ReadFault => say_reason(rt, &reasons.input),
         Status::WriteFault => say_reason(rt, &reasons.output),
         Status::Short { got } => eprint!(rt; "entropy has {got} bytes, not 64\n"),
-        Status::BadLine { line } => {
-            let what = expected(command, line);
-            eprint!(rt; "line {line}: expected {what}, ended by a line feed\n")
-        }
+        Status::BadLine { line } => say_line(rt, command, line, input),
         Status::LineLong { line } => {
             let most = longest_line(command);
             eprint!(rt; "line {line} has more than {most} bytes\n")
         }
+        Status::Usage => say_usage(rt, words),
         Status::Refused(why) => eprint!(rt; "{}\n", refused(why)),
         _ => eprint!(rt; "{}\n", stopped(status)),
     };
@@ -45,6 +50,15 @@ fn say_reason(rt: &HostRuntime, reason: &Option<Reason>) -> io::Result<()> {
         Some(reason) => eprint!(rt; "{reason}\n"),
         None => Ok(()),
     }
+}
+
+// Says of a line what is wrong with it, or what was expected.
+fn say_line(rt: &HostRuntime, command: &str, line: u32, input: &KeptText) -> io::Result<()> {
+    if say_bad_line(rt, command, line, input)? {
+        return Ok(());
+    }
+    let what = expected(command, line);
+    eprint!(rt; "line {line}: expected {what}, ended by a line feed\n")
 }
 
 // What was expected of a line of a command's input.
@@ -89,7 +103,6 @@ fn refused(why: Refusal) -> &'static str {
 // What to look for where the program stopped otherwise.
 fn stopped(status: Status) -> &'static str {
     match status {
-        Status::Usage => "the words are no command: `memoir --help` lists them",
         Status::Blank => {
             "nv holds no instance: is this its folder? `memoir init` starts one, and writes over slots"
         }

@@ -4,11 +4,11 @@ use Rattle.std.proofs.Common.{length-append, append_assoc}
 use Rattle.std.proofs.lemmas.List.{append-nil}
 use Rattle.sha2.specs.Sha256.{sha256}
 use Rattle.mm_store.proofs.Below.{length-sha256}
-use Rattle.mm_base.specs.Fields.{eight_bytes, four_bytes}
+use Rattle.mm_bytes.specs.Fields.{eight_bytes, four_bytes}
 use Rattle.mm_store.specs.PendingRecord.{PendingRecord, IsPending, record_word, pending_front, pending_spelling, ReadsPendingRecord}
 use Rattle.mm_store.specs.PendingRecord.{HasOneReading, SpellsRecord, SpellsNoRecord}
-use Rattle.mm_base.specs.FieldLaws.{joined, append-injective, eight_bytes-injective, four_bytes-injective, length-eight_bytes}
-use Rattle.mm_base.specs.FieldLaws.{length-four_bytes}
+use Rattle.mm_bytes.specs.FieldLaws.{joined, append-injective, eight_bytes-injective, four_bytes-injective, length-eight_bytes}
+use Rattle.mm_bytes.specs.FieldLaws.{length-four_bytes}
 
 -- four parts put at the end one after another
 pub put_in_parts : (old b₁ b₂ b₃ b₄ p₁ p₂ p₃ p₄ q₂ q₃ : List ℕ) → b₁ ≡ old ++ p₁ → b₂ ≡ b₁ ++ p₂ → b₃ ≡ b₂ ++ p₃ →

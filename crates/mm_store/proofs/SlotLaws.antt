@@ -27,11 +27,6 @@ take-longest bytes front n size e f g =
 pub slot_in-with_slot : (slots : Slots) (n : ℕ) (bytes : List ℕ) → slot_in (slots_with slots n bytes) n ≡ bytes
 slot_in-with_slot slots n bytes = grind (arith, nat_tests)
 
--- the later bytes stand
-pub with_slot-twice : (slots : Slots) (n : ℕ) (one other : List ℕ) →
-    slots_with (slots_with slots n one) n other ≡ slots_with slots n other
-with_slot-twice slots n one other = grind (arith, nat_tests)
-
 -- a slot's own bytes change nothing
 pub with_slot-same : (slots : Slots) (n : ℕ) → slots_with slots n (slot_in slots n) ≡ slots
 with_slot-same slots n = grind (arith, nat_tests)

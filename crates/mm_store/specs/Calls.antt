@@ -1,7 +1,7 @@
 -- What each call of a store does to what it holds.
 use Rattle.std.specs.Prelude.{◌≡◌, ◌≤◌, ℕ, true, false, List, Option, Some, Result, Ok, Err, IfOk, length}
 use Rattle.std.specs.Option.{option_map}
-use Rattle.mm_base.specs.Faults.{CountRose}
+use Rattle.mm_bytes.specs.Faults.{CountRose}
 use Rattle.mm_store.specs.declared.fault.StoreFault.{StoreFault}
 use Rattle.mm_store.specs.declared.fault.StoreFault.TheVariants.{Memory, Failed}
 use Rattle.mm_store.specs.declared.store.TheConstants.{LONGEST_SLOT}

@@ -1,9 +1,9 @@
 -- The record of a request that is pending, and its bytes.
 use Rattle.std.specs.Prelude.{◌≡◌, ◌≢◌, ◌+◌, ◌<◌, ◌≤◌, ◌%◌, ◌^◌, ℕ, List, [], ◌∷◌, ◌++◌, length, Option, None, Some}
 use Rattle.sha2.specs.Sha256.{sha256}
-use Rattle.mm_lines.specs.Lines.{IsLineFront}
-use Rattle.mm_base.specs.Fields.{eight_bytes, four_bytes}
-use Rattle.mm_base.specs.Limits.{last_position, longest_request}
+use Rattle.mm_base.specs.Lines.{IsLineFront}
+use Rattle.mm_bytes.specs.Fields.{eight_bytes, four_bytes}
+use Rattle.mm_bytes.specs.Limits.{last_position, longest_request}
 
 -- a request, and the position that it is to take
 pub record PendingRecord : Type 0 where

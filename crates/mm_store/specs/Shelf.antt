@@ -1,6 +1,6 @@
 -- A store in memory.
 use Rattle.std.specs.Prelude.{ℕ, ◌-◌, Bool, true, List, [], None, Some, Result, Ok, Err}
-use Rattle.mm_base.specs.Faults.{next_count}
+use Rattle.mm_bytes.specs.Faults.{next_count}
 use Rattle.mm_store.specs.declared.fault.StoreFault.{StoreFault}
 use Rattle.mm_store.specs.declared.fault.StoreFault.TheVariants.{Memory, Failed}
 use Rattle.mm_store.specs.Slots.{Slots, slots_with}

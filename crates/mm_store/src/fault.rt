@@ -3,7 +3,7 @@
 ghost use Rattle.std.specs.Prelude.{◌≡◌};
 ghost use Rattle.mm_store.specs.declared.fault.StoreFault.TheVariants.{Memory as wanting};
 
-use mm_base::Memory;
+use mm_bytes::Memory;
 use thiserror::Error;
 
 /// A call of a store failed.

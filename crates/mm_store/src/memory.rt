@@ -1,7 +1,7 @@
 //! A store in memory, which fails as it is told to and not otherwise.
 
 ghost use Rattle.std.specs.Prelude.{◌≡◌, ◌↔◌, ◌<◌, ◌≤◌, IsTrue, false, Err, OnOk, OnErr, length, take, if◌then◌else◌};
-ghost use Rattle.mm_base.specs.Faults.{next_count};
+ghost use Rattle.mm_bytes.specs.Faults.{next_count};
 ghost use Rattle.mm_store.specs.Slots.{longest_slot, slot_in, slots_of, slots_with};
 ghost use Rattle.mm_store.specs.Shelf.{Shelf, new_shelf, shelf_standing, shelf_after_call, shelf_after_read, shelf_after_write};
 ghost use Rattle.mm_store.specs.Calls.{ReadsSlot, WritesSlot};
@@ -9,7 +9,7 @@ ghost use Rattle.mm_store.specs.Calls.{ReadsSlot, WritesSlot};
 use crate::fault::StoreFault;
 use crate::four::Four;
 use crate::store::{LONGEST_SLOT, Store};
-use mm_base::{Bytes, Memory};
+use mm_bytes::{Bytes, Memory};
 use std::alloc::Global;
 use std::marker::Model;
 use std::mem;

@@ -5,13 +5,17 @@ ghost use Rattle.mm_store.specs.StoreStanding.{StoreStanding};
 ghost use Rattle.mm_store.specs.Calls.{ReadsSlot, WritesSlot};
 
 use crate::fault::StoreFault;
-use mm_base::Bytes;
+use mm_bytes::Bytes;
 use std::alloc::Global;
 
 /// The most bytes that a slot is read with, and that are written to it.
 pub const LONGEST_SLOT: usize = 1_100_000;
 
 /// Four slots of bytes, numbered from 0 to 3, each of at most 1,100,000 bytes.
+///
+/// What a read hands out is on the disk by then, and so is what a write answered `Ok` to: a store
+/// that can't say so of a slot, as a write of it failed or an earlier program left it, writes what
+/// is there once more, or fails. No clause says this, as no standing has what is on a disk.
 ///
 /// `kept` is what the store holds: the slots where it tells them, whether it is honest, its count
 /// of faults, and, where it is told, which slots have changes that were not synced.

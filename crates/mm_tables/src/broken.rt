@@ -5,7 +5,7 @@ use crate::devices::alone;
 use crate::lines::{given, told};
 use crate::notes::TableNotes;
 use crate::setup::Setup;
-use mm_base::{Bytes, Memory, put_decimal};
+use mm_bytes::{Bytes, Memory, put_decimal};
 use std::alloc::Global;
 
 // Lines that a command plays: its word, the lines, what is written for them, and how many of them

@@ -4,7 +4,7 @@ use crate::notes::TableNotes;
 use crate::offers::{BARRIER, KEY, batch_of, cell_of, offer_of};
 use crate::ways::{ask_in_parts, ask_in_turns, ask_many, ask_one, close_in_turns};
 use mm_ask::{Secrets, provision};
-use mm_base::{Bytes, CELL_LENGTH, Memory, put_decimal, read_decimal};
+use mm_bytes::{Bytes, CELL_LENGTH, Memory, put_decimal, read_decimal};
 use mm_digest::{Digest, Variant};
 use mm_model::{Answer, BatchAnswer, Refusal};
 use mm_module::{Batch, Counter, Outputs};

@@ -4,7 +4,7 @@ use crate::failing::{FailingRaw, FailureEffect};
 use crate::notes::TableNotes;
 use crate::scene::{does, plays, run};
 use crate::setup::Setup;
-use mm_base::{Bytes, Memory, put_decimal, read_decimal};
+use mm_bytes::{Bytes, Memory, put_decimal, read_decimal};
 use mm_pages::{MemPages, PageStore};
 use mm_platform::MemPlatform;
 use mm_store::MemStore;

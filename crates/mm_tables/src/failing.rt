@@ -2,10 +2,10 @@
 //! fails.
 
 ghost use Rattle.std.specs.Prelude.{◌≡◌, IfErr};
-ghost use Rattle.mm_base.specs.Faults.{CountsFaults};
+ghost use Rattle.mm_bytes.specs.Faults.{CountsFaults};
 ghost use Rattle.mm_files.specs.UntoldDevices.{none_are, untold_standing};
 
-use mm_base::Memory;
+use mm_bytes::Memory;
 use mm_digest::{Digest, extended, zero};
 use mm_platform::{Device, RawNv, Register, StepFault};
 

@@ -1,9 +1,9 @@
 //! What faults say.
 
-use mm_base::{Failed, Memory, WriteFault};
+use mm_base::{LineFault, ReplayFault};
+use mm_bytes::{Failed, Memory, WriteFault};
 use mm_gen::BulkFault;
 use mm_host::{HostFault, InitFault, SessionFault};
-use mm_lines::{LineFault, ReplayFault};
 use mm_model::Refusal;
 use mm_platform::StepFault;
 use mm_receipt::NotReceipt;

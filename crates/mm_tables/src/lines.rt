@@ -1,6 +1,6 @@
 //! The lines of a table, and what stands for many bytes in them.
 
-use mm_base::{Bytes, Memory, put_numbered, read_decimal};
+use mm_bytes::{Bytes, Memory, put_numbered, read_decimal};
 use std::alloc::Global;
 
 /// The first of the numbers of a range, as `1..40`, and the one behind its last.

@@ -20,7 +20,7 @@ mod ways;
 use crate::faults::put_faults;
 use crate::notes::TableNotes;
 use crate::table::play_tables;
-use mm_base::Memory;
+use mm_bytes::Memory;
 use std::alloc::AllocError;
 use std::io::Write;
 use std::{env, fs, io};

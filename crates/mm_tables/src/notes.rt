@@ -1,6 +1,6 @@
 //! What came of the cases.
 
-use mm_base::{Bytes, Memory, put_decimal};
+use mm_bytes::{Bytes, Memory, put_decimal};
 use std::alloc::Global;
 
 /// What the last command wrote, how many cases came out as they stand, and what is to be written.

@@ -1,9 +1,9 @@
 //! Cells, offers and batches by the words of a table.
 
 ghost use Rattle.std.specs.Prelude.{◌≤◌, length};
-ghost use Rattle.mm_base.specs.Limits.{last_position};
+ghost use Rattle.mm_bytes.specs.Limits.{last_position};
 
-use mm_base::{Bytes, CELL_LENGTH, Memory};
+use mm_bytes::{Bytes, CELL_LENGTH, Memory};
 use mm_digest::{Digest, Variant, start, zero};
 use mm_module::Batch;
 use mm_seal::{Body, Cell, Place, cell_bytes, seal};

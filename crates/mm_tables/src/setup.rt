@@ -1,6 +1,6 @@
 //! How a command is run.
 
-use mm_base::read_decimal;
+use mm_bytes::read_decimal;
 
 /// The status that a command has to end with; how its input and its entropy are given, and its
 /// output received; and which calls fail, none where the number is 0.

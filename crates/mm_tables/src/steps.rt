@@ -5,7 +5,7 @@ use crate::devices::alone;
 use crate::lines::told;
 use crate::notes::TableNotes;
 use crate::setup::Setup;
-use mm_base::{Bytes, Memory};
+use mm_bytes::{Bytes, Memory};
 use std::alloc::Global;
 
 // The step that stands behind a word, and what stands behind it.

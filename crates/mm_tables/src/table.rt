@@ -9,7 +9,7 @@ use crate::devices::{
 use crate::lines::range_in;
 use crate::notes::TableNotes;
 use crate::steps::over_slot;
-use mm_base::Memory;
+use mm_bytes::Memory;
 use mm_digest::Variant;
 
 /// What a call that fails may leave.

@@ -1,6 +1,6 @@
 //! What a line asks.
 
-use mm_base::read_decimal;
+use mm_bytes::read_decimal;
 
 /// A word, and the numbers behind it, 0 where there is none.
 #[derive(Drop)]

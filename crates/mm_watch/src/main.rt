@@ -10,7 +10,7 @@ mod mount;
 mod slots;
 mod watched;
 
-use crate::memory::remember_over;
+use crate::memory::{remember_existing, remember_over};
 use crate::mount::Mount;
 use crate::slots::keep_over;
 use crate::watched::WatchedFolder;
@@ -21,6 +21,7 @@ fn play_part(mount: &Mount<'_>, kind: &str, lines: &str) -> io::Result<()> {
     match kind {
         "slots" => keep_over(mount, lines),
         "memory" => remember_over(mount, lines),
+        "existing" => remember_existing(mount, lines),
         _ => Ok(()),
     }
 }

@@ -3,7 +3,10 @@
 //! by 32 bytes V, `reset` and `power` empty it, `shown I` reads its byte I, `fail K` lets the K-th
 //! call on files fail. Others let a file have N bytes 5 by `nv N`, `register N` and `register.new
 //! N`, put another `nv` of N in its place by `swap N`, another `register` by `turn N`, and in the
-//! place of `nv` a device by `device`, and nothing by `remove`.
+//! place of `nv` a device by `device`, and nothing by `remove`; in the place of `register.new` a
+//! link to `nv` by `link`; they give `register` another name by `second`, put a link to that in its
+//! place by `lead`, and take the name away by `alone`; and they lock `nv` by `hold`, and let it go
+//! by `leave`.
 
 use crate::line::{WatchCommand, byte_in, done, read_line};
 use crate::mount::Mount;
@@ -15,6 +18,12 @@ use std::io;
 /// Plays these lines over the files of the memory and the register.
 pub fn remember_over(mount: &Mount<'_>, lines: &str) -> io::Result<()> {
     let mut platform = FilePlatform::new(mount);
+    remember_lines(mount, &mut platform, lines)
+}
+
+/// Does so where `nv` is never made.
+pub fn remember_existing(mount: &Mount<'_>, lines: &str) -> io::Result<()> {
+    let mut platform = FilePlatform::existing(mount);
     remember_lines(mount, &mut platform, lines)
 }
 
@@ -93,6 +102,12 @@ fn meddle(mount: &Mount<'_>, asked: &WatchCommand<'_>) -> Option<u64> {
         "turn" => done(mount.0.swap("register", asked.first)),
         "device" => done(mount.0.put_device("nv")),
         "remove" => done(mount.0.remove("nv")),
+        "link" => done(mount.0.put_link("register.new", "nv")),
+        "second" => done(mount.0.put_second("other/register", "register")),
+        "lead" => done(mount.0.put_link("register", "other/register")),
+        "alone" => done(mount.0.remove("other/register")),
+        "hold" => Some(mount.0.hold("nv")),
+        "leave" => Some(mount.0.leave()),
         "fail" => Some(mount.0.fail_at(asked.first)),
         name => done(mount.0.put(name, asked.first)),
     }

@@ -3,7 +3,7 @@
 use crate::watched::WatchedFolder;
 use mm_files::Lock;
 use std::alloc::Allocator;
-use std::fs::{File, Metadata, OpenFile, OpenOptions};
+use std::fs::{File, Metadata, OpenFile, OpenOptions, Permissions};
 use std::io::{self, ErrorKind, Read, Seek, SeekFrom, Write};
 use std::os::unix::fs::FileExt;
 use std::path::PathBuf;
@@ -18,7 +18,11 @@ impl<'a> Files for Mount<'a> {
 
     type Dir = io::Empty;
 
+    // Nothing is told of leases.
     fn open_file(&self, how: &OpenOptions, path: &str) -> io::Result<WatchedFile<'a>> {
+        if path == "/proc/locks" {
+            return Err(io::Error::from(ErrorKind::NotFound));
+        }
         self.0.meet("open", path)?;
         let file = self.0.open(how, path)?;
         Ok(WatchedFile {
@@ -37,8 +41,9 @@ impl<'a> Files for Mount<'a> {
         self.0.metadata(path)
     }
 
-    fn symlink_metadata(&self, _path: &str) -> io::Result<Metadata> {
-        Err(io::Error::from(ErrorKind::Unsupported))
+    fn symlink_metadata(&self, path: &str) -> io::Result<Metadata> {
+        self.0.meet("look", path)?;
+        self.0.symlink_metadata(path)
     }
 
     fn read_link<B: Allocator>(&self, alloc: B, path: &str) -> io::Result<PathBuf<B>> {
@@ -55,8 +60,9 @@ impl<'a> Files for Mount<'a> {
         self.0.rename(from, to)
     }
 
-    fn remove_file(&self, _path: &str) -> io::Result<()> {
-        Err(io::Error::from(ErrorKind::Unsupported))
+    fn remove_file(&self, path: &str) -> io::Result<()> {
+        self.0.meet("remove", path)?;
+        self.0.remove(path)
     }
 
     fn create_dir(&self, _path: &str) -> io::Result<()> {
@@ -159,11 +165,21 @@ impl OpenFile for WatchedFile<'_> {
         self.watched.meet("sync", self.name)?;
         self.file.sync_data()
     }
+
+    fn set_permissions(&self, perm: Permissions) -> io::Result<()> {
+        self.watched.meet("mode", self.name)?;
+        self.file.set_permissions(perm)
+    }
 }
 
 impl Lock for WatchedFile<'_> {
     fn lock_alone(&self) -> io::Result<()> {
         self.watched.meet("lock", self.name)?;
+        self.watched.refuse_held(self.name)?;
         self.file.lock_alone()
+    }
+
+    fn is_standard(&self) -> bool {
+        self.file.is_standard()
     }
 }

@@ -1,14 +1,15 @@
-//! Calls on the four slots, each with a slot and up to two numbers. `page S P N` writes page P with
-//! N bytes 7 in front, `byte S P I` reads byte I of page P, `length S`, `set S N` and `sync S` are
-//! the calls of these names, `fail K` lets the K-th call on files fail. Others let the file have N
-//! bytes 5 by `fill S N`, put another one of N in its place by `swap S N`, a device by `device S`,
-//! and nothing by `remove S`; a link to `other/slotS` by `link S`, where `behind S N` puts a file
-//! of N bytes; and by `same S T` and `second S T` a link to a file, and that file by another name:
-//! slot T below 4, `nv` for 4, `register` for 5, `register.new` for 6.
+//! Calls on the four slots, each with a slot and up to two numbers. `page S P N` writes page P
+//! with N bytes 7 in front, `byte S P I` reads byte I of page P, `length S`, `set S N`, `sync S`
+//! and `renew S` are the calls of these names, `fail K` lets the K-th call on files fail. Others
+//! let the file have N bytes 5 by `fill S N`, put another one of N in its place by `swap S N`, a
+//! device by `device S`, and nothing by `remove S`; a link to `other/slotS` by `link S`, where
+//! `behind S N` puts a file of N bytes; and by `same S T` and `second S T` a link to a file, and
+//! that file by another name: slot T below 4, `nv` for 4, `register` for 5, `register.new` for 6.
+//! By `hold S` they lock the file, and let it go by `leave`.
 
 use crate::line::{WatchCommand, byte_in, done, read_line};
 use crate::mount::Mount;
-use mm_base::{Failed, Memory};
+use mm_bytes::{Failed, Memory};
 use mm_files::FilePages;
 use mm_pages::PageDevice;
 use std::io;
@@ -40,7 +41,7 @@ fn answer<D: PageDevice>(
 ) -> Option<u64> {
     match asked.word {
         "page" | "byte" => on_page(pages, asked),
-        "length" | "set" | "sync" => on_slot(pages, asked),
+        "length" | "set" | "sync" | "renew" => on_slot(pages, asked),
         _ => meddle(mount, asked),
     }
 }
@@ -73,6 +74,7 @@ fn on_slot<D: PageDevice>(pages: &mut D, asked: &WatchCommand<'_>) -> Option<u64
     match asked.word {
         "set" => done(pages.set_length(slot, u32::from(asked.second))),
         "sync" => done(pages.sync(slot)),
+        "renew" => done(pages.renew(slot)),
         _ => length_of(pages, asked),
     }
 }
@@ -93,6 +95,8 @@ fn meddle(mount: &Mount<'_>, asked: &WatchCommand<'_>) -> Option<u64> {
         "device" => done(mount.0.put_device(name)),
         "remove" => done(mount.0.remove(name)),
         "fail" => Some(mount.0.fail_at(asked.first)),
+        "hold" => Some(mount.0.hold(name)),
+        "leave" => Some(mount.0.leave()),
         _ => link(mount, asked),
     }
 }

@@ -16,6 +16,8 @@ pub struct WatchedFolder<'r> {
     rt: &'r HostRuntime,
     id: u32,
     failing: Cell<u16>,
+    // The number of the file that another program has locked, 0 for none.
+    held: Cell<u8>,
 }
 
 impl<'r> WatchedFolder<'r> {
@@ -24,6 +26,7 @@ impl<'r> WatchedFolder<'r> {
             rt,
             id: process::id(rt.process()),
             failing: Cell::new(0),
+            held: Cell::new(0),
         };
         watched.make()?;
         Ok(watched)
@@ -118,6 +121,27 @@ impl<'r> WatchedFolder<'r> {
         symlink(self.rt, "/dev/null", path.as_str())
     }
 
+    /// From now on a file is locked, as by another program, until another is, or `leave` is called.
+    pub fn hold(&self, name: &str) -> u64 {
+        self.held.set(number_of(name));
+        0
+    }
+
+    /// The file that was locked last is let go. It answers 0.
+    pub fn leave(&self) -> u64 {
+        self.held.set(0);
+        0
+    }
+
+    /// An error where another program has locked this file.
+    pub fn refuse_held(&self, name: &str) -> io::Result<()> {
+        let number = number_of(name);
+        if number > 0 && number == self.held.get() {
+            return Err(io::Error::from(ErrorKind::WouldBlock));
+        }
+        Ok(())
+    }
+
     /// Puts a link to a file in another's place, whether it is there or not.
     pub fn put_link(&self, name: &str, target: &str) -> io::Result<()> {
         let path = self.path(name)?;
@@ -156,5 +180,23 @@ impl<'r> WatchedFolder<'r> {
     pub fn metadata(&self, name: &str) -> io::Result<Metadata> {
         let path = self.path(name)?;
         fs::metadata(self.rt, path.as_str())
+    }
+
+    /// What is seen of a file, or of a link itself.
+    pub fn symlink_metadata(&self, name: &str) -> io::Result<Metadata> {
+        let path = self.path(name)?;
+        fs::symlink_metadata(self.rt, path.as_str())
+    }
+}
+
+// The number of a file that may be locked, 0 for another.
+fn number_of(name: &str) -> u8 {
+    match name {
+        "nv" => 1,
+        "slot0" => 2,
+        "slot1" => 3,
+        "slot2" => 4,
+        "slot3" => 5,
+        _ => 0,
     }
 }
