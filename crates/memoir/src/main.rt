@@ -2,7 +2,7 @@
 #![tactic(auto)]
 
 use mm_app::{Status, memoir};
-use mm_lines::{Sink, Source};
+use mm_base::{Sink, Source};
 use mm_platform::Platform;
 use mm_process::{Program, exit_status};
 use mm_store::Store;

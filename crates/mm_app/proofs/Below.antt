@@ -3,9 +3,9 @@ pub use Rattle.std.specs.Io.KnownBytes.{Consumes, IsAtEnd}
 pub use Rattle.std.proofs.Common.{◌+◌, ◌<◌, ◌∙◌, ◌≡◌, ◌≤◌, ◌⊎◌, [], ap, arith, Bool, Err}
 pub use Rattle.std.proofs.Common.{false, inl, inr, is_some, length, length-append, List, map, None, Ok, Option, refl, Result}
 pub use Rattle.std.proofs.Common.{Some, subst, sym, true, ℕ}
-pub use Rattle.mm_base.specs.Faults.{next_count, CountsFaults, CountRose}
-pub use Rattle.mm_lines.specs.Streams.{SinkSends}
-pub use Rattle.mm_lines.specs.declared.replay_fault.ReplayFault.{ReplayFault}
+pub use Rattle.mm_bytes.specs.Faults.{next_count, CountsFaults, CountRose}
+pub use Rattle.mm_base.specs.Streams.{SinkSends}
+pub use Rattle.mm_base.specs.declared.replay_fault.ReplayFault.{ReplayFault}
 pub use Rattle.mm_digest.specs.declared.variant.Variant.{Variant}
 pub use Rattle.mm_seal.specs.declared.cell.Cell.{Cell as Held}
 pub use Rattle.mm_seal.specs.declared.cell.CellFault.{CellFault}

@@ -7,7 +7,7 @@ use Rattle.mm_app.proofs.Below.{BlamesSource, source_faults, tells_platform_faul
 use Rattle.mm_app.proofs.Below.{checkpoint_line, CommandDoes, DoesOrLacks, ReadsInput, UsesPlatform, UsesStore, StoreStanding, Outside}
 use Rattle.mm_app.proofs.Below.{IsStill, power_line, ServesIfFound, FindsInstance, found_instance, session_status, init_line, status_of}
 use Rattle.mm_app.proofs.Below.{GivesText, StopsAs, TellsLines, status_by, Status, Done, Memory, WriteFault, PlatformFault}
-use Rattle.mm_base.specs.declared.fault.WriteFault as write
+use Rattle.mm_bytes.specs.declared.fault.WriteFault as write
 use Rattle.mm_call.specs.Untouched.{CountsHandedFault}
 use Rattle.mm_host.specs.SessionBlame as session_blame
 use Rattle.mm_recovery.specs.declared.init_fault.InitFault.TheVariants as init

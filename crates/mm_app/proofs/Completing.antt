@@ -11,14 +11,14 @@ use Rattle.mm_app.proofs.Below.{power_line, FindsInstance, SeesInstance, ServesI
 use Rattle.mm_app.proofs.Below.{session_status, init_line, TellsLines, status_by, Status}
 use Rattle.std.specs.Str.{bytes_eq}
 use Rattle.std.proofs.lemmas.Slice.Eq.{bytes_eq-Decides}
-use Rattle.mm_base.specs.declared.fault.Failed.{Failed}
-use Rattle.mm_base.specs.declared.fault.WriteFault as write
+use Rattle.mm_bytes.specs.declared.fault.Failed.{Failed}
+use Rattle.mm_bytes.specs.declared.fault.WriteFault as write
 use Rattle.mm_digest.specs.Messages.{zero_bytes}
 use Rattle.mm_digest.specs.declared.variant.Variant.TheVariants.{Basic, Opt}
-use Rattle.mm_lines.specs.declared.replay_fault.ReplayFault.TheVariants as replay
+use Rattle.mm_base.specs.declared.replay_fault.ReplayFault.TheVariants as replay
 use Rattle.mm_recovery.specs.declared.fault.HostFault.TheVariants as host
 use Rattle.std.specs.Prelude.{◌≢◌}
-use Rattle.mm_lines.specs.Input.{lines_of}
+use Rattle.mm_base.specs.Input.{lines_of}
 use Rattle.mm_host.proofs.Above.{among_input, unless_full}
 use Rattle.mm_host.specs.AnySlots.{requests_with}
 use Rattle.mm_host.specs.Continuation.{RefusesAs}

@@ -1,8 +1,8 @@
 -- What is out of a command that plays events, drawn from its play and its stop line.
 use Rattle.mm_app.proofs.Below.{◌≡◌, ◌∙◌, ℕ, List, [], Option, Result, Ok, Err, refl, sym, subst, SinkSends, ReplayFault, status_of}
 use Rattle.mm_app.proofs.Below.{stop_line, Memory, Outside, EndsAtOnce, Status}
-use Rattle.mm_base.specs.declared.fault.WriteFault as write
-use Rattle.mm_lines.specs.declared.replay_fault.ReplayFault.TheVariants as fault
+use Rattle.mm_bytes.specs.declared.fault.WriteFault as write
+use Rattle.mm_base.specs.declared.replay_fault.ReplayFault.TheVariants as fault
 use Rattle.mm_play.proofs.Above.{bare, IsSilent, lacked_events, stopped_events}
 use Rattle.mm_play.specs.Headline.{EventPlayer, TellsEvents}
 use Rattle.mm_play.specs.StreamStanding.{stream_standing}

@@ -1,21 +1,17 @@
 -- What a status tells of what a device held: of each command, and of the words that spell it.
 use Rattle.mm_app.proofs.Below.{◌≡◌, ◌∙◌, ℕ, Bool, true, false, List, length, Option, Result, Ok, Err, refl, sym, ap, subst, inl, inr}
-use Rattle.mm_app.proofs.Below.{arith, CommandLine, Run, ReplayFault, Outside, Status}
+use Rattle.mm_app.proofs.Below.{arith, CommandLine, Checkpoint, Run, ReplayFault, Outside, Status}
 use Rattle.mm_app.proofs.Below.{status_by, status_of, TellsLines, Refusal, one_command}
-use Rattle.std.specs.Prelude.{◌≢◌, Some}
-use Rattle.mm_base.specs.declared.fault.WriteFault as write
-use Rattle.mm_host.specs.Refusals.{IsOfOffer}
-use Rattle.mm_platform.specs.Standing.{Item}
-use Rattle.mm_recovery.specs.WaitingRequest.{IsWaiting}
+use Rattle.std.specs.Prelude.{◌≢◌, IsSome, Some}
+use Rattle.mm_bytes.specs.declared.fault.WriteFault as write
+use Rattle.mm_host.specs.Sessions.{told_cause}
 use Rattle.mm_seal.specs.Cell.{blank_cell}
-use Rattle.mm_store.specs.PendingRecord.{PendingRecord}
-use Rattle.mm_store.specs.Slots.{Slots, slot_front}
 use Rattle.mm_words.specs.Commands.{SpellsCommand}
 use Rattle.mm_words.specs.declared.fault.WordsFault.{WordsFault}
 use Rattle.mm_words.specs.declared.fault.WordsFault.TheVariants as words
 use Rattle.mm_app.specs.Commands.{SpellNone, SpellSome}
-use Rattle.mm_app.specs.StatusFacts.{CantRead, EndsByFault, FindsBasic, HasLostPower, IsExactlyWhere, MayBeLost, NeedsInstance}
-use Rattle.mm_app.specs.StatusFacts.{RefusesNext, RunsShort, StartsOne}
+use Rattle.mm_app.specs.LossAndRefusal.{AsksFirst, AsksNext, HasLostPower, IsExactlyAt, RefusesFirst, RefusesNext, WhateverWaits}
+use Rattle.mm_app.specs.StatusFacts.{CantRead, EndsByFault, FindsBasic, IsExactlyWhere, IsVisible, NeedsInstance, RunsShort, StartsOne}
 use Rattle.mm_app.specs.WordsStatus.{words_status}
 use Rattle.mm_status.specs.declared.status.Status.TheVariants.{Blank, Already, Cell, Lost, Refused, Short, Kind}
 
@@ -50,52 +46,80 @@ held_told (Ok text) received received' writes writes' status end t is held =
     let clash : true ≡ false = sym held ∙ ap tells_held (sym is ∙ t.ends) ∙ text_unheld t.result in absurd (cc)
 held_told (Err why) received received' writes writes' status end t is held = ap (λ (s : Status). Err s) (sym t.ends ∙ is)
 
--- what is told of an offer that was refused
-abbrev pub TellsOffer : CommandLine → (old new : Outside) → Status → List ℕ → Refusal → Type 0
-TellsOffer command old new status cell why =
-    (status ≡ Refused why → (command ≡ Run) × IsOfOffer why)
-    × ((slots : Slots) (waiting : Option PendingRecord) (input : List ℕ) → old.kept.slots ≡ Some slots →
-    IsWaiting (slot_front slots 2) (slot_front slots 3) waiting → old.left ≡ Some input → IsExactlyWhere ((command ≡ Run)
-    × RefusesNext cell old new slots waiting input status why) (Refused why) status)
+-- a status that isn't this one, or a fault, by both of its forms
+pub nowhere_at : {Next First : Type 0} {old new : Outside} {end status : Status} → (status ≡ end → ⊥) → (Next → ⊥) → (First → ⊥)
+    → IsExactlyAt old new Next First end status
+nowhere_at not none first = record { next = nowhere not none; first = λ untold. nowhere not first }
+
+pub by_fault_at : {Next First : Type 0} {old new : Outside} {end status : Status} → EndsByFault status → (EndsByFault end → ⊥)
+    → IsExactlyAt old new Next First end status
+by_fault_at f not = record { next = by_fault_where f not; first = λ untold. by_fault_where f not }
+
+-- where a run ends as lost, and where as refused
+abbrev pub RunLost : List ℕ → (old new : Outside) → Status → Type 0
+RunLost cell old new status =
+    WhateverWaits old (λ slots waiting input.
+    IsExactlyAt old new (AsksNext cell old new slots waiting input status × HasLostPower new.standing)
+    (AsksFirst cell waiting input × HasLostPower new.standing) Lost status)
+
+abbrev pub RunRefused : List ℕ → (old new : Outside) → Status → Refusal → Type 0
+RunRefused cell old new status why =
+    WhateverWaits old (λ slots waiting input.
+    IsExactlyAt old new (RefusesNext cell old new slots waiting input status why)
+    (RefusesFirst cell new.standing slots waiting input why) (Refused why) status)
+
+-- where a command does
+pub record LostWhere (command : CommandLine) (old new : Outside) (status : Status) (cell : List ℕ) : Type 0 where
+  pub only : status ≡ Lost → NeedsInstance command × HasLostPower new.standing
+  pub closing : command ≡ Checkpoint → IsExactlyWhere (HasLostPower new.standing) Lost status
+  pub running : command ≡ Run → RunLost cell old new status
+
+pub record RefusedWhere (command : CommandLine) (old new : Outside) (status : Status) (cell : List ℕ) (why : Refusal) : Type 0 where
+  pub only : status ≡ Refused why → (command ≡ Run) × IsSome (told_cause why) × (HasLostPower new.standing → ⊥)
+  pub running : command ≡ Run → RunRefused cell old new status why
 
 -- another command, or another status
-pub none_offered : (command : CommandLine) (old new : Outside) (status : Status) (cell : List ℕ) (why : Refusal)
-    → (status ≡ Refused why → ⊥)
-    → (command ≡ Run → ⊥) → TellsOffer command old new status cell why
-none_offered command old new status cell why not other =
-    (λ is. absurd (not is), λ slots waiting input slots_told w left. nowhere not (λ h. other h.0))
+pub none_lost : (command : CommandLine) (old new : Outside) (status : Status) (cell : List ℕ) → (status ≡ Lost → ⊥)
+    → (NeedsInstance command → ⊥) → LostWhere command old new status cell
+none_lost command old new status cell not needs = record {
+  only = λ is. absurd (not is);
+  closing = λ e. absurd (needs (subst NeedsInstance (sym e) tt));
+  running = λ e. absurd (needs (subst NeedsInstance (sym e) tt));
+}
+
+pub none_refused : (command : CommandLine) (old new : Outside) (status : Status) (cell : List ℕ) (why : Refusal)
+    → (status ≡ Refused why → ⊥) → (command ≡ Run → ⊥) → RefusedWhere command old new status cell why
+none_refused command old new status cell why not other = record { only = λ is. absurd (not is); running = λ e. absurd (other e) }
 
 -- where a command ends with each status
 pub record Holding (command : CommandLine) (old new : Outside) (status : Status) : Type 0 where
-  pub blank : (cell : List ℕ) (items : List Item) → old.standing.cell ≡ Some cell → old.standing.items ≡ Some items
+  pub blank : (cell : List ℕ) → IsVisible old.standing cell
       → IsExactlyWhere (NeedsInstance command × (cell ≡ blank_cell)) Blank status
-  pub already : (cell : List ℕ) → old.standing.cell ≡ Some cell → IsExactlyWhere (StartsOne command × (cell ≢ blank_cell)) Already status
-  pub unread : (cell : List ℕ) (items : List Item) → old.standing.cell ≡ Some cell → old.standing.items ≡ Some items
-      → IsExactlyWhere (CantRead cell command) Cell status
+  pub already : (cell : List ℕ) → old.standing.cell ≡ Some cell
+      → IsExactlyWhere (StartsOne command × (cell ≢ blank_cell)) Already status
+  pub unread : (cell : List ℕ) → IsVisible old.standing cell → IsExactlyWhere (CantRead cell command) Cell status
   pub kind : (cell : List ℕ) → old.standing.cell ≡ Some cell → IsExactlyWhere (FindsBasic cell command) Kind status
   pub short : (cell secrets : List ℕ) (got : ℕ) → old.standing.cell ≡ Some cell → old.entropy ≡ Some secrets
       → IsExactlyWhere (RunsShort cell secrets command × (got ≡ length secrets)) (Short got) status
-  pub lost : (cell : List ℕ) (items : List Item) → old.standing.cell ≡ Some cell → old.standing.items ≡ Some items
-      → IsExactlyWhere (MayBeLost command status × HasLostPower new.standing) Lost status
-  pub refused : (cell : List ℕ) (items : List Item) (why : Refusal) → old.standing.cell ≡ Some cell → old.standing.items ≡ Some items
-      → TellsOffer command old new status cell why
+  pub lost : (cell : List ℕ) → IsVisible old.standing cell → LostWhere command old new status cell
+  pub refused : (cell : List ℕ) (why : Refusal) → IsVisible old.standing cell → RefusedWhere command old new status cell why
 
 -- a command that uses no device
 pub quiet_holding : (command : CommandLine) (old new : Outside) (status : Status) → tells_held status ≡ false → (NeedsInstance command → ⊥)
     → (StartsOne command → ⊥) → ((cell : List ℕ) → CantRead cell command → ⊥) → ((cell : List ℕ) → FindsBasic cell command → ⊥)
-    → (MayBeLost command status → ⊥) → Holding command old new status
-quiet_holding command old new status quiet needs starts reads finds lost =
+    → Holding command old new status
+quiet_holding command old new status quiet needs starts reads finds =
     let unlike : (end : Status) → tells_held end ≡ true → status ≡ end → ⊥ =
     λ (end : Status) held is. let clash : true ≡ false = sym held ∙ ap tells_held (sym is) ∙ quiet in absurd (cc) in
     record {
-      blank = λ cell items told shown. nowhere (unlike Blank refl) (λ h. needs h.0);
+      blank = λ cell visible. nowhere (unlike Blank refl) (λ h. needs h.0);
       already = λ cell told. nowhere (unlike Already refl) (λ h. starts h.0);
-      unread = λ cell items told shown. nowhere (unlike Cell refl) (reads cell);
+      unread = λ cell visible. nowhere (unlike Cell refl) (reads cell);
       kind = λ cell told. nowhere (unlike Kind refl) (finds cell);
       short = λ cell secrets got told left. nowhere (unlike (Short got) refl) (λ h. starts h.0.0);
-      lost = λ cell items told shown. nowhere (unlike Lost refl) (λ h. lost h.0);
-      refused = λ cell items why told shown.
-          none_offered command old new status cell why (unlike (Refused why) refl) (λ e. needs (subst NeedsInstance (sym e) tt));
+      lost = λ cell visible. none_lost command old new status cell (unlike Lost refl) needs;
+      refused = λ cell why visible.
+          none_refused command old new status cell why (unlike (Refused why) refl) (λ e. needs (subst NeedsInstance (sym e) tt));
     }
 
 pub played_unheld : {T : Type 0} (answer : Result T ReplayFault) → tells_held (status_of answer) ≡ false
@@ -107,16 +131,20 @@ text_quiet r status e = ap tells_held e ∙ text_unheld r
 -- memory was wanting, or an object failed
 pub fault_holding : (command : CommandLine) (old new : Outside) (status : Status) → EndsByFault status → Holding command old new status
 fault_holding command old new status f = record {
-  blank = λ cell items told shown. by_fault_where f (λ h. h);
+  blank = λ cell visible. by_fault_where f (λ h. h);
   already = λ cell told. by_fault_where f (λ h. h);
-  unread = λ cell items told shown. by_fault_where f (λ h. h);
+  unread = λ cell visible. by_fault_where f (λ h. h);
   kind = λ cell told. by_fault_where f (λ h. h);
   short = λ cell secrets got told left. by_fault_where f (λ h. h);
-  lost = λ cell items told shown. by_fault_where f (λ h. h);
-  refused = λ cell items why told shown. (
-    λ is. absurd (subst EndsByFault is f),
-    λ slots waiting input slots_told w left. by_fault_where f (λ h. h),
-  );
+  lost = λ cell visible. record {
+    only = λ is. absurd (subst EndsByFault is f);
+    closing = λ e. by_fault_where f (λ h. h);
+    running = λ e slots waiting input slots_told w left. by_fault_at f (λ h. h);
+  };
+  refused = λ cell why visible. record {
+    only = λ is. absurd (subst EndsByFault is f);
+    running = λ e slots waiting input slots_told w left. by_fault_at f (λ h. h);
+  };
 }
 
 -- The words spell such a command exactly where the one that they spell is such.
@@ -156,6 +184,20 @@ module _ (told : List (List ℕ)) (fault : WordsFault) (status : Status)
 
   pub unspelled : {Is : CommandLine → Type 0} (end : Status) → tells_held end ≡ true → IsExactlyWhere (SpellSome Is told) end status
   unspelled end held = record { only = λ is. absurd (unheld end held is); always = λ h. inr (wanted h) }
+
+  pub unspelled_as : {Holds : Type 0} (command : CommandLine) (end : Status) → tells_held end ≡ true → SpellsCommand command told
+      → IsExactlyWhere Holds end status
+  unspelled_as command end held spells = record {
+    only = λ is. absurd (unheld end held is);
+    always = λ h. inr (wanted {Is = λ it. Unit {0}} (command, tt, spells));
+  }
+
+  pub unspelled_at : {Next First : Type 0} {old new : Outside} (command : CommandLine) (end : Status) → tells_held end ≡ true
+      → SpellsCommand command told → IsExactlyAt old new Next First end status
+  unspelled_at command end held spells = record {
+    next = unspelled_as command end held spells;
+    first = λ untold. unspelled_as command end held spells;
+  }
 
   pub unspelled_where : {Is : CommandLine → Type 0} {More : Type 0} (end : Status) → tells_held end ≡ true
       → IsExactlyWhere (SpellSome Is told × More) end status

@@ -6,8 +6,8 @@ use Rattle.mm_app.proofs.Below.{status_of}
 use Rattle.mm_app.specs.StatusFacts.{EndsByFault}
 use Rattle.mm_app.proofs.Below.{◌∙◌, sym, status_by, Memory, TooMuch}
 use Rattle.mm_app.specs.StatusFacts.{IsExactlyWhere}
-use Rattle.mm_base.specs.declared.fault.WriteFault as write
-use Rattle.mm_lines.specs.declared.replay_fault.ReplayFault.TheVariants as replay
+use Rattle.mm_bytes.specs.declared.fault.WriteFault as write
+use Rattle.mm_base.specs.declared.replay_fault.ReplayFault.TheVariants as replay
 use Rattle.mm_play.specs.Play.{PlayOutcome}
 use Rattle.mm_replay.specs.Schedule.{ReplayStage}
 use Rattle.mm_gen.specs.Replay.{IsReplayed, replay_of}
@@ -41,31 +41,26 @@ does_hold Run old new status d = run_holding old new status d
 does_hold Checkpoint old new status d = checkpoint_holding old new status d
 does_hold Power old new status d =
     quiet_holding Power old new status (told_quiet (power_line d.fault) _ _ _ _ status d.tells (power_quiet d.fault)) (λ h. h) (λ h. h)
-    (λ cell h. h) (λ cell h. h) (λ h. h)
+    (λ cell h. h) (λ cell h. h)
 does_hold (Bulk it) old new status d =
     quiet_holding (Bulk it) old new status
     (told_quiet (bulk_lines it.count d.1.answer) _ _ _ _ status d.1.tells (bulk_quiet it.count d.1.answer))
-    (λ h. h) (λ h. h) (λ cell h. h) (λ cell h. h) (λ h. h)
+    (λ h. h) (λ h. h) (λ cell h. h) (λ cell h. h)
 does_hold (Gen it) old new status d =
     quiet_holding (Gen it) old new status (text_quiet d.given.result status d.given.ends) (λ h. h) (λ h. h) (λ cell h. h) (λ cell h. h)
-    (λ h. h)
 does_hold Help old new status d =
-    quiet_holding Help old new status (text_quiet d.given.result status d.given.ends) (λ h. h) (λ h. h) (λ cell h. h) (λ cell h. h) (λ h. h)
+    quiet_holding Help old new status (text_quiet d.given.result status d.given.ends) (λ h. h) (λ h. h) (λ cell h. h) (λ cell h. h)
 does_hold Replay old new status d =
     quiet_holding Replay old new status (played_quiet d.played.answer status d.played.ends) (λ h. h) (λ h. h) (λ cell h. h) (λ cell h. h)
-    (λ h. h)
 does_hold Check old new status d =
     quiet_holding Check old new status (played_quiet d.played.answer status d.played.ends) (λ h. h) (λ h. h) (λ cell h. h) (λ cell h. h)
-    (λ h. h)
 does_hold Slots old new status d =
     quiet_holding Slots old new status (played_quiet d.played.answer status d.played.ends) (λ h. h) (λ h. h) (λ cell h. h) (λ cell h. h)
-    (λ h. h)
 does_hold (Receipts key) old new status d =
     quiet_holding (Receipts key) old new status (played_quiet d.played.answer status d.played.ends) (λ h. h) (λ h. h) (λ cell h. h)
-    (λ cell h. h) (λ h. h)
+    (λ cell h. h)
 does_hold Transfer old new status d =
     quiet_holding Transfer old new status (played_quiet d.played.answer status d.played.ends) (λ h. h) (λ h. h) (λ cell h. h) (λ cell h. h)
-    (λ h. h)
 
 pub holding : (command : CommandLine) (old new : Outside) (status : Status) → DoesOrLacks command old new status
     → Holding command old new status

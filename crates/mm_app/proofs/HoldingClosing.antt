@@ -22,10 +22,12 @@ use Rattle.mm_platform.specs.Steps.{items_beside, cell_after, WriteCell}
 use Rattle.mm_seal.specs.Cell.{blank_cell, cell_spelling, flag_byte, ReadsCell, SpellsCell}
 use Rattle.mm_seal.specs.CellLaws.{reads_cell-same}
 use Rattle.mm_seal.specs.declared.cell.CellFault.TheVariants as unheld
-use Rattle.mm_app.specs.StatusFacts.{CantRead, EndsByFault, FindsBasic, HasLostPower, IsExactlyWhere}
+use Rattle.mm_app.specs.LossAndRefusal.{HasLostPower}
+use Rattle.mm_app.specs.StatusFacts.{CantRead, EndsByFault, FindsBasic, IsExactlyWhere}
 use Rattle.mm_status.specs.declared.status.Status.TheVariants.{Already, Blank, Cell, Kind, Lost, PlatformFault, Refused, Short}
 use Rattle.mm_app.proofs.Completing.{is_zero}
-use Rattle.mm_app.proofs.Holding.{by_fault_where, exactly_here, held_told, Holding, none_offered, nowhere, tells_held}
+use Rattle.mm_app.proofs.Holding.{by_fault_where, exactly_here, held_told, Holding, none_refused, nowhere, tells_held}
+use Rattle.mm_app.proofs.HoldingRefusal.{some_items}
 
 -- the flag of a cell's spelling
 flag_spelled : (held : Held) → get_or (cell_spelling held) 6 0 ≡ flag_byte held.flag
@@ -154,16 +156,17 @@ module _ (old new : Outside) (status : Status) (answer : Result Checkpointed Che
       told_ok it answer end e told = grind (arith, e, told)
 
   module _ (cell : List ℕ) (same : old.standing.cell ≡ Some cell) where
-    -- the register's items are told, where power was lost
+    -- the register's items are told, where power was lost in a cell of Opt
     abbrev Shown : Type 0
-    Shown = answer ≡ Err refusal.Lost → (items : List Item) × (new.standing.items ≡ Some items)
+    Shown = (held : Held) → SpellsCell cell held → held.variant ≡ Opt → answer ≡ Err refusal.Lost
+        → (items : List Item) × (new.standing.items ≡ Some items)
 
     -- what the status is, by what the cell reads as
     record At : Type 0 where
       blank : IsExactlyWhere (Unit {0} × (cell ≡ blank_cell)) Blank status
       unread : IsExactlyWhere (CantRead cell Checkpoint) Cell status
       kind : IsExactlyWhere (FindsBasic cell Checkpoint) Kind status
-      lost : Shown → IsExactlyWhere (Unit {0} × HasLostPower new.standing) Lost status
+      lost : Shown → IsExactlyWhere (HasLostPower new.standing) Lost status
 
     failed_at : (fault : StepFault) → answer ≡ Err (refusal.Device fault) → At
     failed_at fault e =
@@ -257,32 +260,32 @@ module _ (old new : Outside) (status : Status) (answer : Result Checkpointed Che
       unread = apart Cell Blank refl told (λ k. absurd (cc)) (λ h. h.0 (subst (ReadsCell cell) is r));
       kind = apart Kind Blank refl told (λ k. absurd (cc)) (λ h. reads_apart read (Ok h.0) r (λ k. absurd (cc)) h.1);
       lost = λ shown. apart Lost Blank refl told (λ k. absurd (cc))
-          (λ h. reads_apart read (Ok h.1.held) r (λ k. absurd (cc)) (lost_held h.1 here));
+          (λ h. reads_apart read (Ok h.held) r (λ k. absurd (cc)) (lost_held h here));
     }
     at_end read r (at_none is told here) = record {
       blank = apart Blank Cell refl told (λ k. absurd (cc)) (λ h. (subst (ReadsCell cell) is r).0 h.1);
       unread = exactly_here (so Cell told) (subst (ReadsCell cell) is r);
       kind = apart Kind Cell refl told (λ k. absurd (cc)) (λ h. reads_apart read (Ok h.0) r (λ k. absurd (cc)) h.1);
       lost = λ shown. apart Lost Cell refl told (λ k. absurd (cc))
-          (λ h. reads_apart read (Ok h.1.held) r (λ k. absurd (cc)) (lost_held h.1 here));
+          (λ h. reads_apart read (Ok h.held) r (λ k. absurd (cc)) (lost_held h here));
     }
     at_end read r (at_basic held is v told here) = record {
       blank = apart Blank Kind refl told (λ k. absurd (cc)) (λ h. reads_apart read (Err unheld.Blank) r (λ k. absurd (cc)) h.1);
       unread = apart Cell Kind refl told (λ k. absurd (cc)) (λ h. reads_apart read (Err unheld.Cell) r (λ k. absurd (cc)) h);
       kind = exactly_here (so Kind told) (held, subst (ReadsCell cell) is r, v);
       lost = λ shown. apart Lost Kind refl told (λ k. absurd (cc)) (λ h.
-          let both : Ok h.1.held ≡ Ok held = sym (reads_cell-same cell read (Ok h.1.held) r (lost_held h.1 here)) ∙ is in
-          let same : h.1.held ≡ held = cc in
-          let clash : Opt ≡ Basic = sym h.1.variant ∙ ap (λ (x : Held). x.variant) same ∙ v in absurd (cc));
+          let both : Ok h.held ≡ Ok held = sym (reads_cell-same cell read (Ok h.held) r (lost_held h here)) ∙ is in
+          let same : h.held ≡ held = cc in
+          let clash : Opt ≡ Basic = sym h.variant ∙ ap (λ (x : Held). x.variant) same ∙ v in absurd (cc));
     }
     at_end read r (at_shut held is v flag e here) = record {
       blank = apart_ok Blank refl said.NoSegment e (λ h. reads_apart read (Err unheld.Blank) r (λ k. absurd (cc)) h.1);
       unread = apart_ok Cell refl said.NoSegment e (λ h. reads_apart read (Err unheld.Cell) r (λ k. absurd (cc)) h);
       kind = apart_ok Kind refl said.NoSegment e (not_basic read r held is v);
       lost = λ shown. apart_ok Lost refl said.NoSegment e (λ h.
-          let both : Ok h.1.held ≡ Ok held = sym (reads_cell-same cell read (Ok h.1.held) r (lost_held h.1 here)) ∙ is in
-          let same : h.1.held ≡ held = cc in
-          let clash : true ≡ false = sym h.1.is_open ∙ ap (λ (x : Held). x.flag) same ∙ flag in absurd (cc));
+          let both : Ok h.held ≡ Ok held = sym (reads_cell-same cell read (Ok h.held) r (lost_held h here)) ∙ is in
+          let same : h.held ≡ held = cc in
+          let clash : true ≡ false = sym h.is_open ∙ ap (λ (x : Held). x.flag) same ∙ flag in absurd (cc));
     }
     at_end read r (at_lost held is v flag e here zero) =
         let told : checkpoint_line answer ≡ Err Lost = ap checkpoint_line e in
@@ -291,29 +294,28 @@ module _ (old new : Outside) (status : Status) (answer : Result Checkpointed Che
           unread = apart Cell Lost refl told (λ k. absurd (cc)) (λ h. reads_apart read (Err unheld.Cell) r (λ k. absurd (cc)) h);
           kind = apart Kind Lost refl told (λ k. absurd (cc)) (not_basic read r held is v);
           lost = λ shown.
-              let it = shown e in exactly_here (so Lost told) (
-                tt,
-                record {
-                  held = held;
-                  cell = cell;
-                  told = here;
-                  spells = subst (ReadsCell cell) is r;
-                  variant = v;
-                  is_open = flag;
-                  items = it.0;
-                  shown = it.1;
-                  zero = zero it.0 it.1;
-                },
-              );
+              let spells : SpellsCell cell held = subst (ReadsCell cell) is r in
+              let it = shown held spells v e in
+              exactly_here (so Lost told) (record {
+                held = held;
+                cell = cell;
+                told = here;
+                spells = spells;
+                variant = v;
+                is_open = flag;
+                items = it.0;
+                shown = it.1;
+                zero = zero it.0 it.1;
+              });
         }
     at_end read r (at_done held register is v e there) = record {
       blank = apart_ok Blank refl said.Done e (λ h. reads_apart read (Err unheld.Blank) r (λ k. absurd (cc)) h.1);
       unread = apart_ok Cell refl said.Done e (λ h. reads_apart read (Err unheld.Cell) r (λ k. absurd (cc)) h);
       kind = apart_ok Kind refl said.Done e (not_basic read r held is v);
       lost = λ shown. apart_ok Lost refl said.Done e (λ h.
-          let both : Some h.1.cell ≡ Some (closed_cell held register) = sym h.1.told ∙ there in
-          let same : h.1.cell ≡ closed_cell held register = cc in
-          closed_shut h.1.held held register h.1.is_open (sym h.1.spells.1 ∙ same));
+          let both : Some h.cell ≡ Some (closed_cell held register) = sym h.told ∙ there in
+          let same : h.cell ≡ closed_cell held register = cc in
+          closed_shut h.held held register h.is_open (sym h.spells.1 ∙ same));
     }
 
 -- what was read of the cell before, unless the device failed
@@ -342,15 +344,18 @@ checkpoint_holding old new status d =
     read_of old new status d.answer d.tells cell same d.closes.middle d.closes.found d.closes.looks
     (looked_closed cell new.standing d.answer old.standing d.closes.middle d.closes.found same d.closes.looks d.closes.ends) in
     record {
-      blank = λ cell items told shown. (at cell told).blank;
+      blank = λ cell visible. (at cell visible.told).blank;
       already = λ cell told. nowhere (unlike old new status d.answer d.tells Already refl refl) (λ h. h.0);
-      unread = λ cell items told shown. (at cell told).unread;
+      unread = λ cell visible. (at cell visible.told).unread;
       kind = λ cell told. (at cell told).kind;
       short = λ cell secrets got told left. nowhere (unlike old new status d.answer d.tells (Short got) refl refl) (λ h. h.0.0);
-      lost = λ cell items told shown. (at cell told).lost (λ e.
+      lost = λ cell visible.
+          let lost = (at cell visible.told).lost (λ held spells v e.
           let u : IsUntouched old.standing new.standing =
           (subst (λ (a : Result Checkpointed CheckpointRefusal). LeavesStill a old.standing new.standing) e d.untouched) refl in
-          (items ++ map foreign_item u.others, u.items ∙ ap (λ (x : Option (List Item)). items_beside u.others x) shown));
-      refused = λ cell items why told shown.
-          none_offered Checkpoint old new status cell why (unlike old new status d.answer d.tells (Refused why) refl refl) (λ e. cc);
+          let has = some_items old.standing.items (visible.shown held spells v) in
+          (has.0 ++ map foreign_item u.others, u.items ∙ ap (λ (x : Option (List Item)). items_beside u.others x) has.1)) in
+          record { only = λ is. (tt, lost.only is); closing = λ e. lost; running = λ e. absurd (cc) };
+      refused = λ cell why visible.
+          none_refused Checkpoint old new status cell why (unlike old new status d.answer d.tells (Refused why) refl refl) (λ e. cc);
     }

@@ -4,7 +4,7 @@ use Rattle.mm_app.proofs.Below.{ap, subst, inl, inr, arith, length-append, Consu
 use Rattle.mm_app.proofs.Below.{GoesAfterLooking, GoesAfterTaking, Devices, TakesBytes, instance_from, InitFault, Header, Init}
 use Rattle.mm_app.proofs.Below.{CommandDoes, Outside, init_line, [], Status, StepFault, TellsLines, meaning_of}
 use Rattle.std.specs.Prelude.{◌≢◌}
-use Rattle.mm_base.specs.declared.fault.Failed.{Failed}
+use Rattle.mm_bytes.specs.declared.fault.Failed.{Failed}
 use Rattle.mm_module.specs.Meaning.{Meaning}
 use Rattle.mm_recovery.specs.FirstStart.{TellsByCell}
 use Rattle.mm_recovery.specs.Init.{host_among}
@@ -15,7 +15,7 @@ use Rattle.mm_app.specs.StatusFacts.{EndsByFault, IsExactlyWhere}
 use Rattle.mm_status.specs.declared.status.Status.TheVariants.{Already, Blank, Cell, Kind, Lost, Refused, Short, Memory, PlatformFault}
 use Rattle.mm_status.specs.declared.status.Status.TheVariants.{ReadFault, StoreFault}
 use Rattle.mm_app.proofs.Completing.{set_whole}
-use Rattle.mm_app.proofs.Holding.{by_fault_where, exactly_here, held_told, Holding, none_offered, nowhere, tells_held}
+use Rattle.mm_app.proofs.Holding.{by_fault_where, exactly_here, held_told, Holding, none_lost, none_refused, nowhere, tells_held}
 
 -- the statuses that a first start is told by, but for Done
 abbrev is_start : Status → Bool
@@ -29,10 +29,6 @@ is_start _ = false
 
 start_told : (answer : Result (Unit {0}) InitFault) (end : Status) → init_line answer ≡ Err end → is_start end ≡ true
 start_told answer end e = grind (arith, e)
-
--- whether a cell is told to be in use
-used_only : (answer : Result (Unit {0}) InitFault) → init_line answer ≡ Err Already → answer ≡ Err init.Already
-used_only answer e = grind (arith, e)
 
 short_only : (answer : Result (Unit {0}) InitFault) (got : ℕ) → init_line answer ≡ Err (Short got) → answer ≡ Err (init.Short got)
 short_only answer got e = grind (arith, e)
@@ -114,14 +110,14 @@ start_holding header old new status d =
     let unlike : (end : Status) → tells_held end ≡ true → is_start end ≡ false → status ≡ end → ⊥ = λ (end : Status) held not is.
     let clash : true ≡ false = sym (start_told d.answer end (only end is held)) ∙ not in absurd (cc) in
     record {
-      blank = λ cell items told shown. nowhere (unlike Blank refl refl) (λ h. h.0);
+      blank = λ cell visible. nowhere (unlike Blank refl refl) (λ h. h.0);
       already = λ cell told. used_where cell status d.answer so (λ is. only Already is refl) (d.uses cell told);
-      unread = λ cell items told shown. nowhere (unlike Cell refl refl) (λ h. h);
+      unread = λ cell visible. nowhere (unlike Cell refl refl) (λ h. h);
       kind = λ cell told. nowhere (unlike Kind refl refl) (λ h. h);
       short = λ cell secrets got told left.
           short_where cell status header.variant (meaning_of header.module) (record (devices_of old) { platform = d.steps.platform })
-          (devices_of new) d.steps.is_blank d.answer secrets got so (λ is. only (Short got) is refl) (d.uses cell told) left d.steps.goes;
-      lost = λ cell items told shown. nowhere (unlike Lost refl refl) (λ h. h.0);
-      refused = λ cell items why told shown.
-          none_offered (Init header) old new status cell why (unlike (Refused why) refl refl) (λ e. cc);
+          (devices_of new) d.steps.is_blank d.answer secrets got so (λ is. only (Short got) is refl) (d.uses cell told) left
+          d.steps.goes;
+      lost = λ cell visible. none_lost (Init header) old new status cell (unlike Lost refl refl) (λ h. h);
+      refused = λ cell why visible. none_refused (Init header) old new status cell why (unlike (Refused why) refl refl) (λ e. cc);
     }

@@ -10,5 +10,6 @@ mod Holding
 mod HoldingStart
 mod HoldingClosing
 mod HoldingRefusal
+mod Untold
 mod HoldingRun
 mod HoldingAll

@@ -4,7 +4,7 @@ use Rattle.mm_app.proofs.Below.{InitFault, SessionFault, Checkpointed, Checkpoin
 use Rattle.mm_app.proofs.Below.{CommandLine, Init, Run, Checkpoint, Power, Gen, Bulk, Help, bulk_lines, checkpoint_line, CommandDoes, Outside}
 use Rattle.mm_app.proofs.Below.{power_line, ServesIfFound, FindsInstance, found_instance, session_status, init_line, status_of, TellsLines}
 use Rattle.mm_app.proofs.Below.{status_by, DoesOrLacks, Status, Memory, Usage}
-use Rattle.mm_base.specs.declared.fault.WriteFault as write
+use Rattle.mm_bytes.specs.declared.fault.WriteFault as write
 use Rattle.mm_app.proofs.Blame.{end_of, platform_end}
 
 text_usage : (r : Result (Unit {0}) write.WriteFault) → status_by r ≡ Usage → ⊥

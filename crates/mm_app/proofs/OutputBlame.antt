@@ -5,8 +5,8 @@ use Rattle.mm_app.proofs.Below.{CheckpointRefusal, StepFault, Standing, Header, 
 use Rattle.mm_app.proofs.Below.{BlamesOutput, bulk_lines, checkpoint_line, CommandDoes, DoesOrLacks, Outside, power_line}
 use Rattle.mm_app.proofs.Below.{ServesIfFound, FindsInstance, session_status, init_line, status_of, EndsAtOnce, GivesText, TellsStop}
 use Rattle.mm_app.proofs.Below.{StopsAs, TellsLines, status_by, Status, Memory, WriteFault}
-use Rattle.mm_base.specs.declared.fault.WriteFault as write
-use Rattle.mm_lines.specs.declared.replay_fault.ReplayFault.TheVariants as fault
+use Rattle.mm_bytes.specs.declared.fault.WriteFault as write
+use Rattle.mm_base.specs.declared.replay_fault.ReplayFault.TheVariants as fault
 use Rattle.mm_recovery.specs.declared.fault.HostFault.{HostFault}
 use Rattle.mm_host.specs.SessionBlame as session_blame
 use Rattle.mm_host.specs.declared.fault.SessionFault.TheVariants as session

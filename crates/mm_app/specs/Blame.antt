@@ -1,6 +1,6 @@
 -- Whom a status blames, by the counts of faults.
 use Rattle.std.specs.Prelude.{◌≡◌, ◌⊎◌, ℕ, Bool, true, false}
-use Rattle.mm_base.specs.Faults.{CountRose}
+use Rattle.mm_bytes.specs.Faults.{CountRose}
 use Rattle.mm_play.specs.PlaysInput.{IsBlamed}
 use Rattle.mm_words.specs.declared.command.CommandLine.{CommandLine}
 use Rattle.mm_words.specs.declared.command.CommandLine.TheVariants.{Init}

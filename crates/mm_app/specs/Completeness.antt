@@ -1,7 +1,7 @@
 -- When a command isn't refused, by what the objects that it is handed tell.
 use Rattle.std.specs.Prelude.{◌≡◌, ◌≢◌, ◌+◌, ◌≤◌, ◌++◌, ℕ, true, List, [], length, Option, Some, Result, Ok}
-use Rattle.mm_lines.specs.Input.{lines_of}
-use Rattle.mm_base.specs.Limits.{last_position}
+use Rattle.mm_base.specs.Input.{lines_of}
+use Rattle.mm_bytes.specs.Limits.{last_position}
 use Rattle.mm_check.specs.CheckStage as checked
 use Rattle.mm_digest.specs.Messages.{zero_bytes}
 use Rattle.mm_call.specs.Premises.{AreShown}

@@ -1,6 +1,6 @@
 -- The headlines of the commands that play events: what is out by the status, with the stop line.
 use Rattle.std.specs.Prelude.{◌≡◌, ℕ, List, Option, Result}
-use Rattle.mm_lines.specs.declared.replay_fault.ReplayFault.{ReplayFault}
+use Rattle.mm_base.specs.declared.replay_fault.ReplayFault.{ReplayFault}
 use Rattle.mm_play.specs.Headline.{EventPlayer, TellsEvents}
 use Rattle.mm_play.specs.StreamStanding.{stream_standing}
 use Rattle.mm_replay.specs.Headline.{AreOneRun, replay_player}

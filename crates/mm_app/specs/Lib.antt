@@ -5,6 +5,7 @@ pub mod Commands
 pub mod Completeness
 pub mod Headline
 pub mod StatusFacts
+pub mod LossAndRefusal
 pub mod Slots
 pub mod Transfer
 pub mod WordsStatus

@@ -1,6 +1,6 @@
 -- What a command does that answers the lines of the input.
 use Rattle.std.specs.Prelude.{◌≡◌, ℕ, List, Option, Result}
-use Rattle.mm_lines.specs.declared.replay_fault.ReplayFault.{ReplayFault}
+use Rattle.mm_base.specs.declared.replay_fault.ReplayFault.{ReplayFault}
 use Rattle.mm_play.specs.PlaysInput.{IsBlamed, is_read_fault, is_write_fault}
 use Rattle.mm_status.specs.Status.{status_of}
 use Rattle.mm_status.specs.CommandOutput.{TellsStop}

@@ -1,12 +1,12 @@
 //! The command `bulk`: a schedule is made from a number, run, and told in five lines.
 
 ghost use Rattle.std.specs.Prelude.{◌≤◌};
-ghost use Rattle.mm_base.specs.Limits.{most_events};
+ghost use Rattle.mm_bytes.specs.Limits.{most_events};
 ghost use Rattle.mm_app.specs.Bulk.{RunsInBulk, TellsSummary};
 ghost use Rattle.mm_host_commands.specs.Outside.{Outside};
 
+use mm_base::Sink;
 use mm_gen::{BulkFault, Summary, bulk, summary_text};
-use mm_lines::Sink;
 use mm_status::{Status, stopped, written};
 use mm_words::GeneratedSchedule;
 use std::alloc::Global;

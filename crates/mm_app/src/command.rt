@@ -9,7 +9,8 @@ ghost use Rattle.mm_app.specs.Blame.{BlamesOutput, BlamesSource, tells_platform_
 ghost use Rattle.mm_app.specs.Commands.{DoesOrLacks, ReadsInput, SpellNo, SpellNone, TakesEntropy, UsesPlatform, UsesStore};
 ghost use Rattle.mm_app.specs.Completeness.{CanBeAnswered, CanBeDone, IsDoneOrFailed};
 ghost use Rattle.mm_app.specs.Headline.{ReplaysOneRun};
-ghost use Rattle.mm_app.specs.StatusFacts.{TellsAlready, TellsBlank, TellsCell, TellsKind, TellsLost, TellsMuch, TellsRefusal, TellsShort};
+ghost use Rattle.mm_app.specs.LossAndRefusal.{TellsLost, TellsRefusal};
+ghost use Rattle.mm_app.specs.StatusFacts.{TellsAlready, TellsBlank, TellsCell, TellsKind, TellsMuch, TellsShort};
 ghost use Rattle.mm_host_commands.specs.Outside.{outside};
 ghost use Rattle.mm_app.specs.Slots.{InterleavesRuns};
 ghost use Rattle.mm_status.specs.Status.{EndsUnrefused};
@@ -26,8 +27,8 @@ use crate::replay::replay_and_stop;
 use crate::schedule::write_schedule;
 use crate::slots::play_slots;
 use crate::transfer::play_transfer;
+use mm_base::{Sink, Source};
 use mm_host_commands::{close_segment, lose_power, run_instance, start_instance};
-use mm_lines::{Sink, Source};
 use mm_platform::Platform;
 use mm_status::{Status, stopped};
 use mm_store::Store;
@@ -149,8 +150,13 @@ pub fn memoir<P: Platform, T: Store, S: Source, E: Source, K: Sink>(
     ensures kind { TellsKind (map (λ s. s.now) words.now) (P.standing platform.old) result }
     ensures short { TellsShort (map (λ s. s.now) words.now) (P.standing platform.old)
         (E.left entropy.old) result }
-    ensures lost { TellsLost (map (λ s. s.now) words.now) (P.standing platform.old)
-        (P.standing platform.new) result }
+    ensures lost { let old = outside (P.standing platform.old) (T.kept store.old) (S.left input.old)
+        (S.faults input.old) (E.left entropy.old) (E.faults entropy.old) (K.received out.old)
+        (K.faults out.old) in
+        let new = outside (P.standing platform.new) (T.kept store.new) (S.left input.new)
+        (S.faults input.new) (E.left entropy.new) (E.faults entropy.new) (K.received out.new)
+        (K.faults out.new) in
+        TellsLost (map (λ s. s.now) words.now) old new result }
     ensures refused { let old = outside (P.standing platform.old) (T.kept store.old)
         (S.left input.old) (S.faults input.old) (E.left entropy.old) (E.faults entropy.old)
         (K.received out.old) (K.faults out.old) in

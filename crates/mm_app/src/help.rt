@@ -4,7 +4,7 @@ ghost use Rattle.std.specs.Prelude.{◌⊎◌};
 ghost use Rattle.mm_words.specs.Commands.{help_text};
 ghost use Rattle.mm_status.specs.CommandOutput.{StopsAs, WritesText};
 
-use mm_lines::Sink;
+use mm_base::Sink;
 use mm_status::{Status, stopped, written};
 use mm_words::help_text;
 use std::alloc::Global;

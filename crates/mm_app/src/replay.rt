@@ -7,7 +7,7 @@ ghost use Rattle.mm_host_commands.specs.Outside.{Outside, with_streams};
 ghost use Rattle.mm_app.specs.Completeness.{CanBeAnswered};
 ghost use Rattle.mm_status.specs.Status.{EndsUnrefused};
 
-use mm_lines::{Sink, Source};
+use mm_base::{Sink, Source};
 use mm_replay::replay;
 use mm_status::{Status, answered};
 use std::alloc::Global;

@@ -1,12 +1,12 @@
 //! The command `gen`: a schedule is made from a number.
 
 ghost use Rattle.std.specs.Prelude.{◌≡◌, ◌≤◌, ◌⊎◌};
-ghost use Rattle.mm_base.specs.Limits.{most_events};
+ghost use Rattle.mm_bytes.specs.Limits.{most_events};
 ghost use Rattle.mm_gen.specs.Schedules.{schedule_text};
 ghost use Rattle.mm_status.specs.CommandOutput.{StopsAs, WritesText};
 
+use mm_base::Sink;
 use mm_gen::gen_;
-use mm_lines::Sink;
 use mm_status::{Status, stopped, written};
 use mm_words::GeneratedSchedule;
 use std::alloc::Global;

@@ -4,7 +4,7 @@ use Rattle.mm_at_work.proofs.Below.{Instance, basic_instance, first_history, IsF
 use Rattle.mm_at_work.proofs.Below.{CachedDevice, Sheets, Slots, TornMemory, TwoCell, store_in_pages, two_cells, StartsInMemory}
 use Rattle.mm_host.proofs.Above.{fits_genuine}
 use Rattle.mm_host.specs.AnySlots.{AreAskedInTurn, MayStart, requests_with, SessionRunsOnce}
-use Rattle.mm_host.specs.Continuation.{ContinuesTo, IsInHand, served_calls_in}
+use Rattle.mm_host.specs.Continuation.{ContinuesTo, IsInHand, last_bytes_in, served_calls_in}
 use Rattle.mm_host.specs.HonestStore.{MayGoOn, SessionContinues}
 use Rattle.mm_recovery.specs.SlotFit.{first_offer}
 use Rattle.mm_store.specs.PendingRecord.{PendingRecord}
@@ -43,7 +43,8 @@ continues_to : (all others : List (List ℕ)) (asked : List Batch) (meaning : Me
     (it : Served meaning begun new result) →
     CanBegin all others asked (basic_instance meaning (take 32 s.secrets)) (lines_of begun.left) →
     ContinuesTo all others asked (basic_instance meaning (take 32 s.secrets)) first_history None (two_cells new.platform)
-    (store_in_pages new.pages) (served_calls_in None it.session.goes) (IsInHand None it.session.goes) result
+    (store_in_pages new.pages) (served_calls_in None it.session.goes) (IsInHand None it.session.goes)
+    (last_bytes_in it.session.goes) result
 unfolding may_go_on
 continues_to all others asked meaning begun new left left' result s it can =
     let i : Instance = basic_instance meaning (take 32 s.secrets) in
@@ -68,7 +69,8 @@ continues_to all others asked meaning begun new left left' result s it can =
     let made = (it.once it.session (take 32 s.secrets) first_history slots all others asked
     (requests_with first.fits.waiting lines) start follow).made begun.left refl in
     subst (λ (waiting : Option PendingRecord). ContinuesTo all others asked i first_history waiting (two_cells new.platform)
-    (store_in_pages new.pages) (served_calls_in waiting it.session.goes) (IsInHand waiting it.session.goes) result) first.nothing_waits
+    (store_in_pages new.pages) (served_calls_in waiting it.session.goes) (IsInHand waiting it.session.goes)
+    (last_bytes_in it.session.goes) result) first.nothing_waits
     (it.continues it.session (take 32 s.secrets) first_history slots all others asked
     (requests_with first.fits.waiting lines) may follow made)
 

@@ -1,7 +1,7 @@
 -- The words and laws that the proofs of this crate take from specs/ and from the crates below.
 pub use Rattle.std.specs.Prelude.{◌≡◌, [], Err, length, List, None, Ok, OnOk, Option, refl, Result, Some, take, ℕ}
 pub use Rattle.std.proofs.Common.{◌∙◌, ap, subst, sym}
-pub use Rattle.mm_lines.specs.Input.{lines_of}
+pub use Rattle.mm_base.specs.Input.{lines_of}
 pub use Rattle.mm_digest.specs.declared.variant.Variant.{Variant}
 pub use Rattle.mm_digest.specs.declared.variant.Variant.TheVariants.{Basic, Opt}
 pub use Rattle.mm_twocell.specs.TornMemory.{TornMemory, whole_bytes}

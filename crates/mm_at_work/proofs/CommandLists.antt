@@ -1,9 +1,9 @@
 -- Commands of the program, run one after another, are one life: by what each does.
+use Rattle.std.specs.Io.KnownBytes.{Appends}
 use Rattle.std.specs.List.{AllByRecursion}
 use Rattle.std.proofs.Common.{◌≡◌, ◌∙◌, ◌⊎◌, ◌++◌, ℕ, List, [], ◌∷◌, Bool, true, false, Option, None, Some, Result, Ok, Err, refl, sym, ap}
 use Rattle.std.proofs.Common.{subst, inl, inr}
 use Rattle.std.proofs.lemmas.List.{append-nil}
-use Rattle.mm_host_commands.specs.Checkpoint.{CheckpointsInstance}
 use Rattle.mm_app.specs.Commands.{DoesOrLacks, UsesPlatform}
 use Rattle.mm_host_commands.specs.Outside.{devices_of, session_of}
 use Rattle.mm_host_commands.specs.Power.{LosesPower as CommandLosesPower}
@@ -16,29 +16,38 @@ use Rattle.mm_call.specs.Standing.{StandsAt, cell_at, instance_by}
 use Rattle.mm_call.proofs.Above.{stands_at}
 use Rattle.mm_digest.specs.declared.variant.Variant.{Variant}
 use Rattle.mm_digest.specs.declared.variant.Variant.TheVariants.{Basic, Opt}
-use Rattle.mm_host.specs.SessionStanding.{SessionStanding}
+use Rattle.mm_host.specs.SessionStanding.{SessionStanding, session_standing}
 use Rattle.mm_host.specs.Sessions.{IsSession}
+use Rattle.mm_host.specs.declared.fault.SessionFault.{SessionFault}
 use Rattle.mm_life.specs.Deeds.{Deed, DeedLeads, Extends, LosesPower}
 use Rattle.mm_life.specs.Deeds as deeds
 use Rattle.mm_life.specs.DeviceDeeds.{CyclesAreDeeds, ReadsAreDeeds}
-use Rattle.mm_life.specs.Stages.{Does, IsLife, LifeStage, end_of, session_stage}
+use Rattle.mm_killed.specs.Stopping.{AnyProgramStops}
+use Rattle.mm_life.specs.KilledPrograms.{KilledStartsLeave, devices_at}
+use Rattle.mm_life.specs.Stages.{Does, IsLife, LifePart, LifeStage, PartLeads, end_of, program_standing, session_stage}
 use Rattle.mm_life.specs.DeedHistory.{IsNoCall}
-use Rattle.mm_life.proofs.Above.{deed_stands, life_stands}
+use Rattle.mm_life.proofs.Above.{life_stands}
 use Rattle.mm_model.specs.Instance.{Instance}
 use Rattle.mm_model.specs.Moves.{Digests, digests_of}
 use Rattle.mm_module.specs.Meaning.{Meaning}
 use Rattle.mm_modules.specs.Modules.{meaning_of}
 use Rattle.mm_modules.specs.declared.any.AnyModule.{AnyModule}
+use Rattle.mm_modules.specs.ModulesLaws.{any_is_lawful}
+use Rattle.mm_moments.specs.KilledCalls.{CheckpointStopsAnywhere}
+use Rattle.mm_moments.specs.KilledSessions.{SessionStopsAnywhere}
 use Rattle.mm_opt.specs.Checkpoints.{EndsLooking, FindsSegment, closing_fault_in, segment_in}
 use Rattle.mm_opt.specs.declared.segment.CheckpointRefusal.{CheckpointRefusal}
+use Rattle.mm_opt.specs.declared.segment.CheckpointRefusal.TheVariants.{Device}
 use Rattle.mm_opt.specs.declared.segment.Checkpointed.{Checkpointed}
 use Rattle.mm_opt.specs.declared.segment.Segment.{Segment}
 use Rattle.mm_opt.specs.declared.segment.Segment.TheVariants.{Open, Shut}
 use Rattle.mm_platform.specs.Standing.{Item, Standing}
 use Rattle.mm_platform.specs.Steps.{items_beside}
 use Rattle.mm_platform.specs.declared.fault.StepFault.{StepFault}
+use Rattle.mm_platform.specs.declared.fault.StepFault.TheVariants.{Off}
 use Rattle.mm_recovery.specs.FirstStart.{InstanceBegins, InitLeaves}
-use Rattle.mm_recovery.specs.Init.{GoesAfterLooking, Devices, LooksAtCell}
+use Rattle.mm_recovery.specs.HostStanding.{host_standing}
+use Rattle.mm_recovery.specs.Init.{GoesAfterLooking, Devices, LooksAtCell, devices}
 use Rattle.mm_recovery.specs.declared.init_fault.InitFault.{InitFault}
 use Rattle.mm_recovery.specs.declared.init_fault.InitFault.TheVariants.{Platform}
 use Rattle.mm_schedule.specs.declared.header.Header.{Header}
@@ -51,7 +60,9 @@ use Rattle.mm_words.specs.declared.command.CommandLine.{CommandLine}
 use Rattle.mm_words.specs.declared.command.CommandLine.TheVariants.{Init, Run, Checkpoint, Power}
 use Rattle.mm_at_work.specs.CommandLives.{look_stage, program_of}
 use Rattle.mm_at_work.specs.Commands.{AreLife, AreRun, AreStagesOf, HasBegun, CommandsAreLife, CommandsFromBlank}
-use Rattle.mm_at_work.specs.Commands.{IsMetAgain, IsQuiet, CommandRun}
+use Rattle.mm_at_work.specs.Commands.{AreKilledStagesOf, AreMet, AreStagesBy, CommandBehind, DiesServing, DiesStarting, EndsOrDies, IsCommandKilled}
+use Rattle.mm_at_work.specs.Commands.{place_of}
+use Rattle.mm_at_work.specs.Commands.{IsMet, IsQuiet, CommandRun}
 use Rattle.mm_at_work.proofs.CommandStages.{finds_it}
 
 -- lives, one behind another
@@ -60,12 +71,52 @@ life_append : (variant : Variant) (meaning : Meaning) (here later : List LifeSta
 life_append variant meaning [] later start f g = g
 life_append variant meaning (stage ∷ here) later start f g = (f.0, life_append variant meaning here later stage.after f.1 g)
 
+life_behind : (variant : Variant) (meaning : Meaning) (here later : List LifeStage) (start middle : Standing) → end_of start here ≡ middle
+    → IsLife variant meaning start here → IsLife variant meaning middle later → IsLife variant meaning start (here ++ later)
+life_behind variant meaning here later start middle ends f g =
+    life_append variant meaning here later start f (subst (λ (x : Standing). IsLife variant meaning x later) (sym ends) g)
+
 pub nothing_beside : (items : Option (List Item)) → items ≡ items_beside [] items
 nothing_beside None = refl
 nothing_beside (Some xs) = ap (λ (x : List Item). Some x) (sym (append-nil xs))
 
-behind_met : (met : LifeStage) (here later : List LifeStage) → met ∷ (here ++ later) ≡ met ∷ here ++ later
+behind_met : (met here later : List LifeStage) → met ++ (here ++ later) ≡ met ++ (here ++ later)
 behind_met met here later = refl
+
+-- what is met: deeds in which no call is made, over a cell that stays
+met_leads : (variant : Variant) (meaning : Meaning) (old : Standing) (part : LifePart) (new : Standing) → IsMet old part new
+    → PartLeads variant meaning old part new
+met_leads variant meaning old (Does (Extends values)) new m = m
+met_leads variant meaning old (Does LosesPower) new m = m
+met_leads variant meaning old _ new m = absurd m
+
+met_quiet : (old : Standing) (part : LifePart) (new : Standing) → IsMet old part new → (deed : Deed) × (part ≡ Does deed) × IsNoCall deed
+met_quiet old (Does (Extends values)) new m = (Extends values, refl, tt)
+met_quiet old (Does LosesPower) new m = (LosesPower, refl, tt)
+met_quiet old _ new m = absurd m
+
+met_cell : (old : Standing) (part : LifePart) (new : Standing) → IsMet old part new → new.cell ≡ old.cell
+met_cell old (Does (Extends values)) new m = m.0
+met_cell old (Does LosesPower) new m = m.0
+met_cell old _ new m = absurd m
+
+met_life : (variant : Variant) (meaning : Meaning) (met : List LifeStage) (start now : Standing) → AreMet start met now
+    → IsLife variant meaning start met
+met_life variant meaning [] start now m = tt
+met_life variant meaning (stage ∷ met) start now m =
+    (met_leads variant meaning start stage.part stage.after m.0, met_life variant meaning met stage.after now m.1)
+
+met_ends : (met : List LifeStage) (start now : Standing) → AreMet start met now → end_of start met ≡ now
+met_ends [] start now m = sym m
+met_ends (stage ∷ met) start now m = met_ends met stage.after now m.1
+
+met_blank : (met : List LifeStage) (start now : Standing) → AreMet start met now → now.cell ≡ start.cell
+met_blank [] start now m = ap (λ (s : Standing). s.cell) m
+met_blank (stage ∷ met) start now m = met_blank met stage.after now m.1 ∙ met_cell start stage.part stage.after m.0
+
+pub met_still : (met : List LifeStage) (start now : Standing) → AreMet start met now → AllByRecursion IsQuiet met
+met_still [] start now m = tt
+met_still (stage ∷ met) start now m = (met_quiet start stage.part stage.after m.0, met_still met stage.after now m.1)
 
 -- quiet stages are those of a command
 abbrev QuietOf : CommandRun → CommandLine → Type 0
@@ -94,7 +145,19 @@ meaning_is : (variant : Variant) (meaning : Meaning) (key barrier : List ℕ) �
 meaning_is Basic meaning key barrier = refl
 meaning_is Opt meaning key barrier = refl
 
-module _ (reads : ReadsAreDeeds) (cycles : CyclesAreDeeds) (it : AnyModule) (variant : Variant) (key barrier : List ℕ) where
+-- the laws of what is killed
+pub record Kills : Type 0 where
+  pub stops : SessionStopsAnywhere
+  pub broken : CheckpointStopsAnywhere
+  pub any : AnyProgramStops (Result (Unit {0}) InitFault)
+  pub starts : KilledStartsLeave
+
+none_sent : (received : Option (List ℕ)) → Appends received received []
+none_sent None = tt
+none_sent (Some xs) = sym (append-nil xs)
+
+module _ (reads : ReadsAreDeeds) (cycles : CyclesAreDeeds) (kills : Kills)
+    (it : AnyModule) (variant : Variant) (key barrier : List ℕ) where
   abbrev M : Meaning
   M = meaning_of it
 
@@ -212,56 +275,135 @@ module _ (reads : ReadsAreDeeds) (cycles : CyclesAreDeeds) (it : AnyModule) (var
   ran_by r Power (inl does) unused d s = power_ran r does
   ran_by r command (inl does) unused d s = same_ran r command (λ stages q. q) (unused (λ used. used))
 
-  -- what was met before a command
-  record Met (start now : Standing) : Type 0 where
-    deed : Deed
-    quiet : IsNoCall deed
-    leads : DeedLeads variant M start deed now
+  -- what one command that was killed is of the life
+  record OneDied (r : CommandRun) (command : CommandLine) : Type 0 where
+    here : List LifeStage
+    life : IsLife variant M r.old.standing here
+    ends : end_of r.old.standing here ≡ r.new.standing
+    stages_of : AreKilledStagesOf r command here
 
-  met_by : (start now : Standing) → IsMetAgain start now → Met start now
-  met_by start now m = elim m.items [
-    | inl more ↦ record { deed = Extends more.0; quiet = tt; leads = (m.cell, more.1) }
-    | inr none ↦ record { deed = LosesPower; quiet = tt; leads = (m.cell, none) }
+  quiet_died : (r : CommandRun) (command : CommandLine)
+      → ((stages : List LifeStage) → AllByRecursion IsQuiet stages → AreKilledStagesOf r command stages) → (deed : Deed)
+      → IsNoCall deed → DeedLeads variant M r.old.standing deed r.new.standing → OneDied r command
+  quiet_died r command says deed quiet f =
+      let stages : List LifeStage = record { part = Does deed; after = r.new.standing } ∷ [] in
+      record { here = stages; life = (f, tt); ends = refl; stages_of = says stages ((deed, refl, quiet), tt) }
+
+  -- a session that a kill left
+  session_died : (r : CommandRun) (header : Header) (middle : Standing) (values : List (List ℕ))
+      → DeedLeads variant M r.old.standing (Extends values) middle → header ≡ record { variant = variant; «module» = it }
+      → (left between : Option (List ℕ)) (result : Result (Unit {0}) SessionFault)
+      → IsSession header.variant (meaning_of header.«module») (session_of (record r.old { standing = middle }))
+      (session_standing r.new.standing r.new.kept left between) result
+      → (bytes : List ℕ) → Appends between r.new.received bytes → OneDied r Run
+  session_died r header middle values looks is left between result s bytes sent =
+      let old : SessionStanding = session_of (record r.old { standing = middle }) in
+      let new : SessionStanding = session_standing r.new.standing r.new.kept left between in
+      let session : IsSession variant M old new result =
+      subst (λ (h : Header). IsSession h.variant (meaning_of h.«module») old new result) is s in
+      record {
+        here = look_stage values middle
+            ∷ session_stage (program_of r.old) (program_standing r.new.kept left between) result r.new.standing ∷ [];
+        life = (looks, (session, tt));
+        ends = refl;
+        stages_of = inr (record {
+          values = values;
+          middle = middle;
+          left = left;
+          between = between;
+          result = result;
+          are = refl;
+          bytes = bytes;
+          sent = sent;
+        });
+      }
+
+  serving_died : (r : CommandRun) (k : DiesServing r) (d : Digests) → StandsAt I r.old.standing d → OneDied r Run
+  serving_died r k d stands =
+      let looks = reads variant M r.old.standing k.middle k.looks.fault k.looks.goes in
+      let is = found_is (cell_at I d) k.looks.fault r.old.standing k.header (variant_is variant M key barrier)
+      (ap (λ (m : Meaning). m.id) (meaning_is variant M key barrier)) (stands.spells, refl) stands.cell k.looks.finds in
+      elim k.dies [
+        | inl dies ↦
+            let s = kills.stops k.header.variant (meaning_of k.header.«module») (any_is_lawful k.header.«module»)
+            (session_of (record r.old { standing = k.middle })) (host_standing r.new.standing r.new.kept) r.new.received dies in
+            session_died r k.header k.middle k.looks.goes.others looks is s.left r.new.received (Err s.fault) s.stops []
+            (none_sent r.new.received)
+        | inr behind ↦
+            session_died r k.header k.middle k.looks.goes.others looks is behind.left behind.between behind.result behind.sessions
+            behind.bytes behind.sent
+      ]
+
+  -- `init` on a cell that isn't blank is a look
+  starting_died : (r : CommandRun) (header : Header) (k : DiesStarting header r) (d : Digests) → StandsAt I r.old.standing d
+      → OneDied r (Init header)
+  starting_died r header k d stands =
+      let s = kills.any k.code (place_of r.old) (place_of r.new) k.killed.unplanned k.killed.killed in
+      let b = k.runs s.end s.given s.runs in
+      let l = b.goes.looks in
+      let is = looked_at header b.goes.platform b.goes.is_blank (devices_of r.old) (devices s.end.standing s.end.kept s.end.entropy b.takes)
+      s.given (cell_at I d) stands.cell (stands.spells, refl) l b.goes.goes in
+      let f = subst (λ (x : Standing). DeedLeads variant M r.old.standing (Extends l.goes.others) x) (sym is)
+      (reads variant M r.old.standing b.goes.platform _ l.goes) in
+      quiet_died r (Init header) (λ stages q. q) (Extends l.goes.others) tt (sym s.leaves.cell ∙ f.0, sym s.leaves.items ∙ f.1)
+
+  died_by : (r : CommandRun) (command : CommandLine) → IsCommandKilled command r → (d : Digests) → StandsAt I r.old.standing d
+      → OneDied r command
+  died_by r (Init header) k d s = starting_died r header k d s
+  died_by r Run (inl look) d s =
+      quiet_died r Run (λ stages q. inl q) (Extends look.1.others) tt
+      (reads variant M r.old.standing r.new.standing look.0 look.1)
+  died_by r Run (inr serving) d s = serving_died r serving d s
+  died_by r Checkpoint (inl k) d s =
+      quiet_died r Checkpoint (λ stages q. q) (deeds.Checkpoints (Err (Device Off))) tt
+      (kills.broken r.old.standing k.end r.new.standing k.said k.closes k.moment k.among k.leaves).goes
+  died_by r Checkpoint (inr k) d s = quiet_died r Checkpoint (λ stages q. q) (deeds.Checkpoints k.said) tt k.goes
+  died_by r Power k d s = elim (cycles variant M r.old.standing r.new.standing k.0 k.1).failed [
+    | inl lost ↦ quiet_died r Power (λ stages q. q) LosesPower tt lost
+    | inr kept ↦ quiet_died r Power (λ stages q. q) (Extends []) tt kept
   ]
+  died_by r command same d s =
+      quiet_died r command (λ stages q. q) (Extends []) tt (
+        ap (λ (x : Standing). x.cell) same,
+        ap (λ (x : Standing). x.items) same ∙ nothing_beside r.old.standing.items,
+      )
 
-  all_ran : (commands : List CommandRun) (start : Standing) → AreRun start commands → (d : Digests) → StandsAt I start d
+  -- one that ended, or was killed
+  record OneBehind (killed : Bool) (r : CommandRun) : Type 0 where
+    here : List LifeStage
+    life : IsLife variant M r.old.standing here
+    ends : end_of r.old.standing here ≡ r.new.standing
+    stages_of : AreStagesBy killed r here
+
+  either : (killed : Bool) (r : CommandRun) → EndsOrDies killed r → (d : Digests) → StandsAt I r.old.standing d → OneBehind killed r
+  either false r h d s =
+      let one = ran_by r r.command h.does h.unused d s in
+      record { here = one.here; life = one.life; ends = one.ends; stages_of = one.stages_of }
+  either true r h d s =
+      let one = died_by r r.command h d s in
+      record { here = one.here; life = one.life; ends = one.ends; stages_of = one.stages_of }
+
+  all_ran : (commands : List CommandBehind) (start : Standing) → AreRun start commands → (d : Digests) → StandsAt I start d
       → AreLife variant M start commands
   all_ran [] start h d s = record { stages = []; life = tt; stages_of = refl }
   all_ran (r ∷ commands) start h d s =
-      let m = met_by start r.old.standing h.0 in
-      let at = deed_stands variant M key barrier start m.deed r.old.standing m.leads d s in
-      let one = ran_by r r.command h.1.does h.1.unused at.digests at.stands in
-      let behind = life_stands variant M key barrier r.old.standing one.here one.life at.digests at.stands in
+      let ends = met_ends r.met start r.old.standing h.0 in
+      let life = met_life variant M r.met start r.old.standing h.0 in
+      let at = life_stands variant M key barrier start r.met life d s in
+      let one = either r.killed r.ran h.1 at.digests (rw ends at at.stands) in
+      let behind = life_stands variant M key barrier r.old.standing one.here one.life at.digests (rw ends at at.stands) in
       let rest = all_ran commands r.new.standing h.2 behind.digests (rw one.ends at behind.stands) in
-      let met : LifeStage = record { part = Does m.deed; after = r.old.standing } in
       record {
-        stages = met ∷ (one.here ++ rest.stages);
-        life = (
-          m.leads,
-          life_append variant M one.here rest.stages r.old.standing one.life
-              (subst (λ (x : Standing). IsLife variant M x rest.stages) (sym one.ends) rest.life),
-        );
-        stages_of = (
-          met,
-          one.here,
-          rest.stages,
-          behind_met met one.here rest.stages,
-          (m.deed, refl, m.quiet),
-          one.stages_of,
-          rest.stages_of,
-        );
+        stages = r.met ++ (one.here ++ rest.stages);
+        life = life_behind variant M r.met (one.here ++ rest.stages) start r.old.standing ends life
+            (life_behind variant M one.here rest.stages r.old.standing r.new.standing one.ends one.life rest.life);
+        stages_of = (one.here, rest.stages, behind_met r.met one.here rest.stages, one.stages_of, rest.stages_of);
       }
 
-pub commands_are_life : ReadsAreDeeds → CyclesAreDeeds → CommandsAreLife
-commands_are_life reads cycles it variant key barrier y start commands stands h =
+pub commands_are_life : ReadsAreDeeds → CyclesAreDeeds → Kills → CommandsAreLife
+commands_are_life reads cycles kills it variant key barrier y start commands stands h =
     let i : Instance = instance_by variant (meaning_of it) key barrier in
-    all_ran reads cycles it variant key barrier commands start h (digests_of i y) (stands_at i start y stands)
-
--- On a blank cell a command leaves it blank, or it begins an instance.
-record BeginsOne (r : CommandRun) : Type 0 where
-  header : Header
-  is : r.command ≡ Init header
-  begins : InstanceBegins header.variant (meaning_of header.«module») (devices_of r.old) (devices_of r.new)
+    all_ran reads cycles kills it variant key barrier commands start h (digests_of i y) (stands_at i start y stands)
 
 abbrev BlankOrBegun : CommandRun → CommandLine → Type 0
 BlankOrBegun r command =
@@ -323,8 +465,46 @@ module _ (r : CommandRun) (blank : r.old.standing.cell ≡ Some blank_cell) wher
   blank_by Power (inl does) unused = inl does.cycles.cell
   blank_by command (inl does) unused = inl (ap (λ (x : Standing). x.cell) (unused (λ used. used)))
 
-module _ (reads : ReadsAreDeeds) (cycles : CyclesAreDeeds) where
-  begun_here : (r : CommandRun) (commands : List CommandRun) → r.old.standing.cell ≡ Some blank_cell → AreRun r.new.standing commands
+  begun_by : (header : Header) → InstanceBegins header.variant (meaning_of header.«module») (devices_at (place_of r.old))
+      (devices_at (place_of r.new))
+      → InstanceBegins header.variant (meaning_of header.«module») (devices_of r.old) (devices_of r.new)
+  begun_by header b = record {
+    secrets = b.secrets;
+    counted = b.counted;
+    taken = b.taken;
+    stands = b.stands;
+    honest = b.honest;
+    stores = b.stores;
+    synced = b.synced;
+    first = b.first;
+  }
+
+  started_blank : Kills → (header : Header) → DiesStarting header r → BlankOrBegun r (Init header)
+  started_blank kills header k =
+      elim (kills.starts header.variant (meaning_of header.«module») k.code (place_of r.old) (place_of r.new)
+      (λ end said runs. (k.runs end said runs).leaves) k.killed) [
+        | inl same ↦ inl same
+        | inr begins ↦ inr (header, refl, begun_by header begins)
+      ]
+
+  killed_blank : Kills → (command : CommandLine) → IsCommandKilled command r → BlankOrBegun r command
+  killed_blank kills (Init header) k = started_blank kills header k
+  killed_blank kills Run (inl look) = inl look.1.cell
+  killed_blank kills Run (inr k) = absurd (found_none k.looks.fault k.header k.looks.finds)
+  killed_blank kills Checkpoint (inl k) =
+      let c = (kills.broken r.old.standing k.end r.new.standing k.said k.closes k.moment k.among k.leaves).closes in
+      inl (checked_blank c.found c.middle (Err (Device Off)) c.looks.goes.cell c.looks.finds c.ends)
+  killed_blank kills Checkpoint (inr k) =
+      let c = k.closes in inl (checked_blank c.found c.middle k.said c.looks.goes.cell c.looks.finds c.ends)
+  killed_blank kills Power k = inl k.1.cell
+  killed_blank kills command same = inl (ap (λ (x : Standing). x.cell) same)
+
+  either_blank : Kills → (killed : Bool) → EndsOrDies killed r → BlankOrBegun r r.command
+  either_blank kills false h = blank_by r.command h.does h.unused
+  either_blank kills true h = killed_blank kills r.command h
+
+module _ (reads : ReadsAreDeeds) (cycles : CyclesAreDeeds) (kills : Kills) where
+  begun_here : (r : CommandBehind) (commands : List CommandBehind) → r.old.standing.cell ≡ Some blank_cell → AreRun r.new.standing commands
       → (header : Header) → r.command ≡ Init header
       → InstanceBegins header.variant (meaning_of header.«module») (devices_of r.old) (devices_of r.new) → HasBegun (r ∷ commands)
   begun_here r commands blank h header is begins = record {
@@ -336,16 +516,16 @@ module _ (reads : ReadsAreDeeds) (cycles : CyclesAreDeeds) where
     is = is;
     begins = begins;
     blank = blank;
-    life = λ values shows. commands_are_life reads cycles header.«module» header.variant _ _ _ r.new.standing commands
+    life = λ values shows. commands_are_life reads cycles kills header.«module» header.variant _ _ _ r.new.standing commands
         (begins.stands blank_cell values blank shows) h;
   }
 
-  begun_later : (r : CommandRun) (commands : List CommandRun) → HasBegun commands → HasBegun (r ∷ commands)
+  begun_later : (r : CommandBehind) (commands : List CommandBehind) → HasBegun commands → HasBegun (r ∷ commands)
   begun_later r commands b = record {
     before = r ∷ b.before;
     begun = b.begun;
     behind = b.behind;
-    are = ap (λ (rs : List CommandRun). r ∷ rs) b.are;
+    are = ap (λ (rs : List CommandBehind). r ∷ rs) b.are;
     header = b.header;
     is = b.is;
     begins = b.begins;
@@ -353,12 +533,12 @@ module _ (reads : ReadsAreDeeds) (cycles : CyclesAreDeeds) where
     life = b.life;
   }
 
-  from_blank : (commands : List CommandRun) (start : Standing) → start.cell ≡ Some blank_cell → AreRun start commands
+  from_blank : (commands : List CommandBehind) (start : Standing) → start.cell ≡ Some blank_cell → AreRun start commands
       → AllByRecursion (λ r. r.new.standing.cell ≡ Some blank_cell) commands ⊎ HasBegun commands
   from_blank [] start blank h = inl tt
   from_blank (r ∷ commands) start blank h =
-      let old : r.old.standing.cell ≡ Some blank_cell = h.0.cell ∙ blank in
-      elim (blank_by r old r.command h.1.does h.1.unused) [
+      let old : r.old.standing.cell ≡ Some blank_cell = met_blank r.met start r.old.standing h.0 ∙ blank in
+      elim (either_blank r.ran old kills r.killed h.1) [
         | inl same ↦ elim (from_blank commands r.new.standing (same ∙ old) h.2) [
           | inl all ↦ inl (same ∙ old, all)
           | inr began ↦ inr (begun_later r commands began)
@@ -366,5 +546,5 @@ module _ (reads : ReadsAreDeeds) (cycles : CyclesAreDeeds) where
         | inr begins ↦ inr (begun_here r commands old h.2 begins.0 begins.1 begins.2)
       ]
 
-pub commands_from_blank : ReadsAreDeeds → CyclesAreDeeds → CommandsFromBlank
-commands_from_blank reads cycles start commands blank h = from_blank reads cycles commands start blank h
+pub commands_from_blank : ReadsAreDeeds → CyclesAreDeeds → Kills → CommandsFromBlank
+commands_from_blank reads cycles kills start commands blank h = from_blank reads cycles kills commands start blank h

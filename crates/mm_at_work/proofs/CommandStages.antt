@@ -1,7 +1,7 @@
 -- The commands of the program are parts of a life, by what each does.
-use Rattle.std.proofs.Common.{◌≡◌, ◌∙◌, ℕ, List, [], ◌∷◌, Option, None, Some, Result, Ok, Err, refl, sym, ap, subst}
+use Rattle.std.proofs.Common.{◌≡◌, ◌∙◌, ℕ, List, Option, None, Some, Result, Ok, Err, refl, sym, ap, subst}
 use Rattle.mm_host_commands.specs.Outside.{Outside, devices_of}
-use Rattle.mm_host_commands.specs.Run.{FindsInstance, RunsInstance, SeesInstance, ServesIfFound, found_header, found_instance}
+use Rattle.mm_host_commands.specs.Run.{FindsInstance, SeesInstance, ServesIfFound, found_header, found_instance}
 use Rattle.mm_digest.specs.declared.variant.Variant.TheVariants.{Basic, Opt}
 use Rattle.mm_call.specs.Standing.{instance_by}
 use Rattle.mm_model.specs.Standing.{cell_of}

@@ -1,6 +1,6 @@
 -- Commands of the program, run one after another, keep what their module promises.
 use Rattle.std.specs.List.{AllByRecursion}
-use Rattle.std.proofs.Common.{◌≡◌, ◌++◌, ℕ, List, [], ◌∷◌, Some, drop, refl, take, inl, inr}
+use Rattle.std.proofs.Common.{◌≡◌, ◌++◌, ℕ, Bool, true, false, List, [], ◌∷◌, Some, drop, refl, take, inl, inr}
 use Rattle.mm_digest.specs.declared.variant.Variant.TheVariants.{Basic, Opt}
 use Rattle.mm_evidence.proofs.Above.{clash_or}
 use Rattle.mm_life.specs.Deeds.{Calls, Checkpoints, Extends, LosesPower}
@@ -22,9 +22,10 @@ use Rattle.mm_recovery.specs.SlotFit.{first_offer}
 use Rattle.mm_store.specs.Slots.{Slots}
 use Rattle.mm_words.specs.declared.command.CommandLine.{CommandLine}
 use Rattle.mm_words.specs.declared.command.CommandLine.TheVariants.{Run}
-use Rattle.mm_at_work.specs.Commands.{AreStagesOf, AreStagesOfAll, CommandsAreLife, IsQuiet, CommandRun}
+use Rattle.mm_at_work.specs.Commands.{AreKilledStagesOf, AreRun, AreStagesBy, AreStagesOf, AreStagesOfAll, CommandBehind, CommandsAreLife, IsQuiet, CommandRun}
 use Rattle.mm_at_work.specs.CommandPromises.{BasicCommandsKeepPromises, OptCommandsKeepPromises}
 use Rattle.mm_at_work.specs.Lives.{IsOldCopy}
+use Rattle.mm_at_work.proofs.CommandLists.{met_still}
 use Rattle.mm_at_work.proofs.WholeLives.{basic_short, first_by, first_is_old, opt_short}
 
 -- the sessions of these stages begin over these slots, and besides no call is made
@@ -50,15 +51,26 @@ module _ (slots : Slots) where
   one_over r Run stages (inr session) told = rw session.are (tt, (told, tt))
   one_over r _ stages quiet told = all_quiet stages quiet
 
-  all_over : (commands : List CommandRun) (stages : List LifeStage) → AreStagesOfAll commands stages
-      → AllByRecursion (λ (r : CommandRun). r.old.kept.slots ≡ Some slots) commands → StartOver slots stages
-  all_over [] stages e told = rw e tt
-  all_over (r ∷ commands) stages (met, here, later, e, quiet, one, rest) told =
-      rw e (
-        quiet_over met quiet,
-        each_append (λ (stage : LifeStage). StartsOver slots stage.part) here later
-            (one_over r r.command here one told.0) (all_over commands later rest told.1),
-      )
+  killed_over : (r : CommandRun) (command : CommandLine) (stages : List LifeStage) → AreKilledStagesOf r command stages
+      → r.old.kept.slots ≡ Some slots → StartOver slots stages
+  killed_over r Run stages (inl quiet) told = all_quiet stages quiet
+  killed_over r Run stages (inr session) told = rw session.are (tt, (told, tt))
+  killed_over r _ stages quiet told = all_quiet stages quiet
+
+  by_over : (killed : Bool) (r : CommandRun) (stages : List LifeStage) → AreStagesBy killed r stages → r.old.kept.slots ≡ Some slots
+      → StartOver slots stages
+  by_over false r stages of told = one_over r r.command stages of told
+  by_over true r stages of told = killed_over r r.command stages of told
+
+  all_over : (commands : List CommandBehind) (start : Standing) (stages : List LifeStage) → AreRun start commands
+      → AreStagesOfAll commands stages
+      → AllByRecursion (λ (r : CommandBehind). r.old.kept.slots ≡ Some slots) commands → StartOver slots stages
+  all_over [] start stages run e told = rw e tt
+  all_over (r ∷ commands) start stages run (here, later, e, one, rest) told =
+      let Over : LifeStage → Type 0 = λ stage. StartsOver slots stage.part in
+      rw e (each_append Over r.met (here ++ later) (all_quiet r.met (met_still r.met start r.old.standing run.0))
+      (each_append Over here later (by_over r.killed r.ran here one told.0)
+      (all_over commands r.new.standing later run.2 rest told.1)))
 
 -- so nothing is offered first but what was issued first
 module _ (offers : SessionsOfferSlots) (i : Instance) (slots : Slots)
@@ -108,7 +120,7 @@ module _ (are : CommandsAreLife) (keep : LivesKeepPromises) (offers : SessionsOf
         untagged = λ first.
             all_untagged offers i (first_slots i)
             (first_is_old i (basic_short (meaning_of it) (any_is_lawful it) key) first_history (begins.first [])) l.stages after.platform []
-            l.life (all_over (first_slots i) commands l.stages l.stages_of first);
+            l.life (all_over (first_slots i) commands after.platform l.stages run l.stages_of first);
       }
 
   pub opt_commands_keep : OptLifeIsOne → OptCommandsKeepPromises
@@ -132,5 +144,5 @@ module _ (are : CommandsAreLife) (keep : LivesKeepPromises) (offers : SessionsOf
         untagged = λ first.
             all_untagged offers i (first_slots i)
             (first_is_old i (opt_short (meaning_of it) (any_is_lawful it) key barrier) (first_history_on []) (begins.first [])) l.stages
-            after.platform [] l.life (all_over (first_slots i) commands l.stages l.stages_of first);
+            after.platform [] l.life (all_over (first_slots i) commands after.platform l.stages run l.stages_of first);
       }

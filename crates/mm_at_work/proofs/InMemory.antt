@@ -3,7 +3,7 @@ use Rattle.mm_at_work.proofs.Below.{◌≡◌, List, ℕ, Result, Ok, Err, Optio
 use Rattle.mm_at_work.proofs.Below.{Batch, Instance, History, InstanceBegins, InitLeaves, CanRecover, HostRecovers, CachedDevice, Sheets}
 use Rattle.mm_at_work.proofs.Below.{Slots, TornMemory, whole_bytes, TwoCell, first_devices, two_cells, StartsInMemory}
 use Rattle.std.specs.Option.{option_map}
-use Rattle.mm_lines.specs.Streams.{Supply}
+use Rattle.mm_base.specs.Streams.{Supply}
 use Rattle.mm_recovery.specs.declared.fault.HostFault.{HostFault}
 use Rattle.mm_recovery.specs.declared.init_fault.InitFault.{InitFault}
 use Rattle.mm_recovery.specs.declared.resuming.Resumed.{Resumed}

@@ -3,6 +3,7 @@ use Rattle.std.specs.Prelude.{◌≡◌, ◌⊎◌, ℕ, List, [], ◌∷◌, So
 use Rattle.std.specs.List.{AllByRecursion}
 use Rattle.mm_digest.specs.declared.variant.Variant.TheVariants.{Basic, Opt}
 use Rattle.mm_evidence.specs.Evidence.{HasClash}
+use Rattle.mm_host_commands.specs.Outside.{Outside, devices_of}
 use Rattle.mm_life.specs.Laws.{life_snapshots}
 use Rattle.mm_life.specs.OneList.{IsOneWhole, life_replies}
 use Rattle.mm_life.specs.Premises.{AreUntagged, life_batches, life_messages, opt_messages, others_values}
@@ -17,10 +18,12 @@ use Rattle.mm_platform.specs.Standing.{Standing}
 use Rattle.mm_recovery.specs.FirstStart.{InstanceBegins, ShowsValues, first_slots}
 use Rattle.mm_recovery.specs.Init.{Devices, instance_from}
 use Rattle.mm_schedule.specs.Promises.{ModulePromises}
-use Rattle.mm_at_work.specs.Commands.{AreLife, AreRun, HaveRun, CommandRun}
+use Rattle.mm_at_work.specs.Commands.{AreLife, AreRun, CommandBehind}
+use Rattle.mm_at_work.specs.HandedRounds.{HaveRun}
+use Rattle.mm_at_work.specs.declared.hosts.Verb.{Verb}
 
 -- the store of each command holds the first slots, put back whatever it held before
-abbrev pub HoldFirstSlots : Instance → List CommandRun → Type 0
+abbrev pub HoldFirstSlots : Instance → List CommandBehind → Type 0
 HoldFirstSlots i commands =
     AllByRecursion (λ r. r.old.kept.slots ≡ Some (first_slots i)) commands
 
@@ -36,7 +39,8 @@ pub record KeepsPromise (it : AnyModule) (i : Instance) (all others : List (List
 -- promise, or gives evidence: two different of these messages have one digest, or the digest of one
 -- is zero, or one of these values is the guard of a request. So it is where each store holds the
 -- first slots again.
-pub record LivesWell (it : AnyModule) (i : Instance) (start : Standing) (commands : List CommandRun)
+pub record LivesWell (it : AnyModule) (i : Instance) (start : Standing)
+    (commands : List CommandBehind)
     (messages : (stages : List LifeStage) → IsLife i.variant i.meaning start stages → List (List ℕ))
     (others : (stages : List LifeStage) → IsLife i.variant i.meaning start stages → List (List ℕ))
     : Type 0 where
@@ -54,7 +58,7 @@ abbrev pub BasicCommandsKeepPromises : Type 0
 BasicCommandsKeepPromises =
     (it : AnyModule) (before after : Devices)
     (begins : InstanceBegins Basic (meaning_of it) before after)
-    (cell : List ℕ) (commands : List CommandRun) → before.platform.cell ≡ Some cell →
+    (cell : List ℕ) (commands : List CommandBehind) → before.platform.cell ≡ Some cell →
     AreRun after.platform commands →
     (let i = instance_from Basic (meaning_of it) begins.secrets in
     LivesWell it i after.platform commands
@@ -65,7 +69,7 @@ abbrev pub OptCommandsKeepPromises : Type 0
 OptCommandsKeepPromises =
     (it : AnyModule) (before after : Devices)
     (begins : InstanceBegins Opt (meaning_of it) before after)
-    (cell : List ℕ) (values : List (List ℕ)) (commands : List CommandRun) →
+    (cell : List ℕ) (values : List (List ℕ)) (commands : List CommandBehind) →
     before.platform.cell ≡ Some cell → ShowsValues Opt after.platform values →
     AreRun after.platform commands →
     (let i = instance_from Opt (meaning_of it) begins.secrets in
@@ -73,12 +77,15 @@ OptCommandsKeepPromises =
     (λ stages f. opt_messages i after.platform stages f)
     (λ stages f. others_values i after.platform stages f))
 
--- An instance of Basic was started, and then so many commands were run over its platform, whatever
--- the host did to the slots between them, and whatever it handed them: they live well.
-pub record LivesUnderHost (it : AnyModule) (end : Standing) (rounds : ℕ) : Type 0 where
-  pub secrets : List ℕ
+-- An instance of Basic was started, and then so many commands were run over its platform, each as
+-- the host handed it, whatever it did to the slots between them: they live well.
+pub record LivesUnderHost {H O : Type 0} (hands : H → H → O → O → Verb → Type 0)
+    (tells : Standing → O → Outside) (it : AnyModule) (before : Devices) (end : Standing)
+    (host host' : H) (objects' : O) (rounds : ℕ) : Type 0 where
   pub start : Standing
-  pub ran : HaveRun start end rounds
-  pub lives : (let i = instance_from Basic (meaning_of it) secrets in
+  pub objects : O
+  pub begun : InstanceBegins Basic (meaning_of it) before (devices_of (tells start objects))
+  pub ran : HaveRun hands tells start end host host' objects objects' rounds
+  pub lives : (let i = instance_from Basic (meaning_of it) begun.secrets in
       LivesWell it i start ran.commands (λ stages f. life_messages i start stages f)
       (λ stages f. []))

@@ -2,7 +2,8 @@
 -- pages.
 use Rattle.std.specs.Prelude.{ℕ, List, true, None, Some}
 use Rattle.std.specs.Option.{option_map}
-use Rattle.mm_lines.specs.Streams.{Supply}
+use Rattle.mm_base.specs.Streams.{Intake, Supply}
+use Rattle.mm_host_commands.specs.Outside.{Outside, outside}
 use Rattle.mm_host.specs.SessionStanding.{SessionStanding, session_standing}
 use Rattle.mm_life.specs.Stages.{ProgramStanding, program_standing}
 use Rattle.mm_recovery.specs.HostStanding.{HostStanding, host_standing}
@@ -87,3 +88,11 @@ first_devices it store entropy = record {
   left = Some entropy.left;
   source_faults = entropy.faults;
 }
+
+-- what the objects tell that a host hands a command in memory: the pages, an input, a source of
+-- entropy, and an output
+abbrev pub memory_objects : Standing → CachedDevice Sheets → (input entropy : Supply) → Intake
+    → Outside
+memory_objects standing store input entropy out =
+    outside standing (store_in_pages store) (Some input.left) input.faults (Some entropy.left)
+    entropy.faults (Some out.received) out.faults

@@ -1,7 +1,7 @@
 -- What a first start, and a session behind it, come to over devices in memory.
 use Rattle.std.specs.Prelude.{◌≡◌, ℕ, List, ◌++◌, None, Result, length, take}
 use Rattle.std.specs.List.{Contains}
-use Rattle.mm_lines.specs.Input.{lines_of}
+use Rattle.mm_base.specs.Input.{lines_of}
 use Rattle.mm_digest.specs.Messages.{start_message}
 use Rattle.mm_digest.specs.declared.variant.Variant.TheVariants.{Basic}
 use Rattle.mm_module.specs.Batch.{Batch}
@@ -11,7 +11,7 @@ use Rattle.mm_model.specs.InstanceWords.{basic_instance}
 use Rattle.mm_model.specs.History.{first_history}
 use Rattle.mm_model.specs.Messages.{IsClear, AreNoGuards}
 use Rattle.mm_host.specs.AnySlots.{AreAskedInTurn}
-use Rattle.mm_host.specs.Continuation.{ContinuesTo, IsInHand, served_calls_in}
+use Rattle.mm_host.specs.Continuation.{ContinuesTo, IsInHand, last_bytes_in, served_calls_in}
 use Rattle.mm_recovery.specs.FirstStart.{first_slots}
 use Rattle.mm_recovery.specs.SlotFit.{first_offer}
 use Rattle.mm_host.specs.Sessions.{IsSession}
@@ -46,4 +46,5 @@ pub record BeginsAndServes (meaning : Meaning) (entropy entropy' : List ℕ)
       → CanBegin all others asked (basic_instance meaning (take 32 secrets)) (lines_of old.left) →
       ContinuesTo all others asked (basic_instance meaning (take 32 secrets)) first_history None
       (two_cells new.platform) (store_in_pages new.pages)
-      (served_calls_in None session.goes) (IsInHand None session.goes) result
+      (served_calls_in None session.goes) (IsInHand None session.goes)
+      (last_bytes_in session.goes) result

@@ -6,5 +6,6 @@ pub mod OldCopy
 pub mod Lives
 pub mod CommandLives
 pub mod Commands
+pub mod HandedRounds
 pub mod CommandPromises
 pub mod Verbs

@@ -1,6 +1,6 @@
 -- What a session comes to over an old copy of the pages, or over any other pages.
 use Rattle.std.specs.Prelude.{◌≡◌, ℕ, List, ◌++◌, Option, Some, Result}
-use Rattle.mm_lines.specs.Input.{lines_of}
+use Rattle.mm_base.specs.Input.{lines_of}
 use Rattle.mm_digest.specs.declared.variant.Variant.{Variant}
 use Rattle.mm_digest.specs.declared.variant.Variant.TheVariants.{Basic, Opt}
 use Rattle.mm_platform.specs.Standing.{Item}
@@ -18,7 +18,7 @@ use Rattle.mm_store.specs.PendingRecord.{PendingRecord}
 use Rattle.mm_store.specs.Slots.{Slots, slot_front}
 use Rattle.mm_host.specs.AnySlots.{AreAskedInTurn, AsksNothingNew, EndsRun, requests_with}
 use Rattle.mm_recovery.specs.SlotFit.{first_offer}
-use Rattle.mm_host.specs.Continuation.{IsInHand, served_calls_in}
+use Rattle.mm_host.specs.Continuation.{IsInHand, last_bytes_in, served_calls_in}
 use Rattle.mm_host.specs.Sessions.{IsSession}
 use Rattle.mm_recovery.specs.WaitingRequest.{IsWaiting}
 use Rattle.mm_host.specs.declared.fault.SessionFault.{SessionFault}
@@ -52,7 +52,7 @@ CopyRunsOnce Basic meaning old new result s =
     old.pages.device.slots (lines_of old.left)) →
     EndsRun all others asked (basic_instance meaning key) y
     (first_offer old.pages.device.slots can.waiting) (two_cells new.platform)
-    (served_calls_in can.waiting s.goes) (IsInHand can.waiting s.goes) result
+    (served_calls_in can.waiting s.goes) (IsInHand can.waiting s.goes) (last_bytes_in s.goes) result
 CopyRunsOnce Opt meaning old new result s =
     (key barrier : List ℕ) (y : History) (all others : List (List ℕ)) (asked : List Batch)
     (items more : List Item) →
@@ -66,7 +66,7 @@ CopyRunsOnce Opt meaning old new result s =
     → AreShown all others (opt_instance meaning key barrier) y more) →
     EndsRun all others asked (opt_instance meaning key barrier) y
     (first_offer old.pages.device.slots can.waiting) (two_cells new.platform)
-    (served_calls_in can.waiting s.goes) (IsInHand can.waiting s.goes) result
+    (served_calls_in can.waiting s.goes) (IsInHand can.waiting s.goes) (last_bytes_in s.goes) result
 
 -- The pages are the copy when it starts.
 pub record ServesCopy (variant : Variant) (meaning : Meaning) (old new : MemorySession)

@@ -9,11 +9,14 @@ ghost use Rattle.mm_at_work.specs.Commands.{CommandsAreLife, CommandsFromBlank, 
 ghost use Rattle.mm_at_work.specs.CommandLives.{CheckpointsArePartsOfLife, InitBeginsLife, LossesArePartsOfLife, RunsArePartsOfLife, RunsFindTheInstance};
 
 use mm_app::{Status, memoir};
+use mm_base::{Sink, Source};
+use mm_host::InitFault;
+use mm_killed::any_program_stops;
 use mm_life::{
-    basic_life_is_one, device_calls_are_deeds, lives_keep_promises, opt_life_is_one,
-    sessions_offer_slots,
+    basic_life_is_one, device_calls_are_deeds, killed_programs_live, lives_keep_promises,
+    opt_life_is_one, sessions_offer_slots,
 };
-use mm_lines::{Sink, Source};
+use mm_moments::{call_stops_anywhere, session_stops_anywhere};
 use mm_platform::Platform;
 use mm_store::Store;
 use std::alloc::Global;
@@ -31,14 +34,19 @@ pub fn commands_are_parts_of_life()
     device_calls_are_deeds();
 }
 
-/// Commands of the program, run one after another over one platform, are one life, whatever the
-/// host leaves in the slots and hands each of them: from any history for which the platform stands;
-/// and from a blank cell, where one of them begins an instance.
+/// Commands of the program, run one after another over one platform, each to its end or until it is
+/// killed, are one life, whatever the host leaves in the slots and hands each of them: from any
+/// history for which the platform stands; and from a blank cell, where one of them begins an
+/// instance.
 pub fn commands_are_one_life()
     ensures life { CommandsAreLife }
     ensures blank { CommandsFromBlank }
 {
+    any_program_stops::<Result<(), InitFault>>();
+    call_stops_anywhere();
     device_calls_are_deeds();
+    killed_programs_live();
+    session_stops_anywhere();
 }
 
 /// Behind an `init` that began an instance they keep what its module promises: a limiter gives no

@@ -3,15 +3,16 @@
 ghost use Rattle.std.specs.Prelude.{OnOk};
 ghost use Rattle.mm_host_commands.specs.Outside.{outside};
 ghost use Rattle.mm_at_work.specs.CommandPromises.{LivesUnderHost};
-ghost use Rattle.mm_at_work.specs.Commands.{HaveRun, IsCommandRun};
-ghost use Rattle.mm_at_work.specs.Devices.{two_cells};
+ghost use Rattle.mm_at_work.specs.Commands.{IsCommandRun};
+ghost use Rattle.mm_at_work.specs.HandedRounds.{HaveRun};
+ghost use Rattle.mm_at_work.specs.Devices.{first_devices, memory_objects, two_cells};
 ghost use Rattle.mm_at_work.specs.Verbs.{verb_command};
 
 use crate::commands::{commands_keep_promises, run_command};
 use crate::sessions::{start, tells_cell};
 use mm_app::Status;
+use mm_base::{MemSink, MemSource, Sink, Source};
 use mm_digest::Variant;
-use mm_lines::{MemSink, MemSource, Sink, Source};
 use mm_modules::AnyModule;
 use mm_pages::{MemPages, PageStore};
 use mm_platform::Platform;
@@ -40,7 +41,14 @@ pub struct HandedObjects<T, S, E, K> {
 /// A host: it does what it likes to what it hands the next command, and says which that is. Nothing
 /// is asked of it.
 pub trait Host<T, S, E, K> {
-    fn hand(&mut self, handed: &mut HandedObjects<T, S, E, K>) -> Verb;
+    ghost use Rattle.mm_at_work.specs.declared.hosts.HandedObjects.{HandedObjects};
+    ghost use Rattle.mm_at_work.specs.declared.hosts.Verb.{Verb};
+
+    /// How it hands: the host and the objects before and behind, and the command that it says.
+    ghost hands: { Self → Self → HandedObjects T S E K → HandedObjects T S E K → Verb → Type 0 };
+
+    fn hand(&mut self, handed: &mut HandedObjects<T, S, E, K>) -> Verb
+        ensures { hands self.old self.new handed.old handed.new result };
 }
 
 /// Runs one of the commands that go on with an instance.
@@ -78,7 +86,8 @@ pub fn run_verb<P: Platform, T: Store, S: Source, E: Source, K: Sink>(
     }
 }
 
-/// Runs so many commands over one platform, each as the host hands it.
+/// Runs so many commands over one platform, each as the host hands it: the one that it says, over
+/// the objects that it left.
 pub fn run_rounds<P: Platform, T: Store, S: Source, E: Source, K: Sink, H: Host<T, S, E, K>>(
     alloc: Global,
     rounds: u32,
@@ -86,7 +95,11 @@ pub fn run_rounds<P: Platform, T: Store, S: Source, E: Source, K: Sink, H: Host<
     host: &mut H,
     handed: &mut HandedObjects<T, S, E, K>,
 )
-    ensures { HaveRun (P.standing platform.old) (P.standing platform.new) rounds }
+    ensures { HaveRun H.hands (λ standing objects. outside standing (T.kept objects.store)
+        (S.left objects.input) (S.faults objects.input) (E.left objects.entropy)
+        (E.faults objects.entropy) (K.received objects.out) (K.faults objects.out))
+        (P.standing platform.old) (P.standing platform.new) host.old host.new handed.old handed.new
+        rounds }
 {
     for round in 0..rounds {
         let verb = host.hand(handed);
@@ -106,7 +119,10 @@ pub fn live_under_host<H: Host<PageStore<MemPages>, MemSource, MemSource, MemSin
     host: &mut H,
     handed: &mut MemHandedObjects,
 ) -> Result<(), InitFault>
-    ensures { OnOk result (LivesUnderHost «module».now (two_cells platform.new) rounds) }
+    ensures { OnOk result (LivesUnderHost H.hands (λ standing objects. memory_objects standing
+        objects.store objects.input objects.entropy objects.out) «module».now
+        (first_devices platform.old handed.old.store handed.old.entropy) (two_cells platform.new)
+        host.old host.new handed.new rounds) }
 {
     // Laws, which do nothing: the clauses rest on their contracts.
     commands_keep_promises();

@@ -6,10 +6,10 @@ ghost use Rattle.mm_at_work.specs.Lives.{LivesCheckpointed, LivesOnCopy, LivesWi
 
 use crate::calls::close_segment;
 use crate::sessions::{serve, start};
+use mm_base::{MemSink, MemSource};
 use mm_digest::Variant;
 use mm_host::SessionFault;
 use mm_life::{basic_life_is_one, device_calls_are_deeds, opt_life_is_one, sessions_offer_slots};
-use mm_lines::{MemSink, MemSource};
 use mm_module::Module;
 use mm_opt::{CheckpointRefusal, Checkpointed};
 use mm_pages::{MemPages, PageStore};

@@ -12,9 +12,9 @@ ghost use Rattle.mm_at_work.specs.OldCopy.{ServesCopy};
 ghost use Rattle.mm_at_work.specs.MemoryRecovery.{RecoversInMemory};
 ghost use Rattle.mm_at_work.specs.MemoryStart.{StartsInMemory};
 
+use mm_base::{MemSink, MemSource};
 use mm_digest::Variant;
 use mm_host::{HostFault, InitFault, Resumed, SessionFault, init, resume, session};
-use mm_lines::{MemSink, MemSource};
 use mm_module::Module;
 use mm_pages::{MemPages, PageStore};
 use mm_twocell::{MemRaw, TwoCell};

@@ -9,11 +9,11 @@ pub use Rattle.std.proofs.KnownBytes.{Appends-nil, Appends-trans, Consumes-nil, 
 pub use Rattle.std.proofs.lemmas.Bool.Decides.{nat_tests}
 pub use Rattle.std.proofs.lemmas.List.{append-nil, append_cancel_left, append_cancel_right, take_all}
 pub use Rattle.std.proofs.lemmas.Result.{err_from_is_err_and}
-pub use Rattle.mm_lines.specs.Input.{IsUnbroken, joined_lines, lines_of, lines_with_front, tail_with_front, tail_of}
-pub use Rattle.mm_lines.specs.InputLaws.{lines_of-append, lines_of-joined, lines_of-line, tail_of-append, tail_of-joined, tail_of-unbroken}
-pub use Rattle.mm_base.specs.Limits.{last_position, longest_request}
-pub use Rattle.mm_lines.specs.Lines.{IsLong, IsLineFront}
-pub use Rattle.mm_lines.specs.declared.replay_fault.ReplayFault.TheVariants.{BadLine, LineLong, Memory, TooMuch, WriteFault}
+pub use Rattle.mm_base.specs.Input.{IsUnbroken, joined_lines, lines_of, lines_with_front, tail_with_front, tail_of}
+pub use Rattle.mm_base.specs.InputLaws.{lines_of-append, lines_of-joined, lines_of-line, tail_of-append, tail_of-joined, tail_of-unbroken}
+pub use Rattle.mm_bytes.specs.Limits.{last_position, longest_request}
+pub use Rattle.mm_base.specs.Lines.{IsLong, IsLineFront}
+pub use Rattle.mm_base.specs.declared.replay_fault.ReplayFault.TheVariants.{BadLine, LineLong, Memory, TooMuch, WriteFault}
 pub use Rattle.mm_digest.specs.Messages.{extended_message, zero_bytes}
 pub use Rattle.mm_digest.specs.declared.variant.Variant.{Variant}
 pub use Rattle.mm_digest.specs.declared.variant.Variant.TheVariants.{Basic, Opt}

@@ -7,7 +7,7 @@ use Rattle.std.specs.Prelude.{◌&&◌, ◌+◌, if◌then◌else◌, nat_le}
 use Rattle.std.specs.Result.{result_map_both}
 use Rattle.std.specs.Str.{bytes_eq}
 use Rattle.mm_digest.specs.Messages.{zero_bytes}
-use Rattle.mm_base.specs.Limits.{last_position}
+use Rattle.mm_bytes.specs.Limits.{last_position}
 use Rattle.mm_module.specs.Batch.{size_of}
 use Rattle.mm_seal.specs.Snapshot.{Snapshot, tag_of}
 use Rattle.mm_seal.specs.declared.snapshot.Place.{Place}
@@ -63,17 +63,18 @@ module _ (variant : Variant) (meaning : Meaning) (key barrier : List ℕ) where
       let l = call_leaves before h.0 offer c.line (Ok c.answer) h.1 d s in
       calls_leave c.answer.snapshot h.0 at told h.2 l.digests l.stands
 
-  ends_leave : (at after : Standing) (offer : List ℕ) (hand : List ℕ → Type 0) (result : Result Unit SessionFault) (d : Digests)
-      → StandsAt i at d → Ends variant meaning at after offer hand result → EndsAt i after offer hand result
-  ends_leave at after offer hand result d s (rests same none) =
+  ends_leave : (at after : Standing) (offer : List ℕ) (hand : List ℕ → Type 0) (sent : List ℕ) (result : Result Unit SessionFault)
+      (d : Digests)
+      → StandsAt i at d → Ends variant meaning at after offer hand sent result → EndsAt i after offer hand result
+  ends_leave at after offer hand sent result d s (rests same none unwritten) =
       rw same (record { digests = d; stands = s; refuses = λ why e. absurd (none why e) })
-  ends_leave at after offer hand result d s (stops request h came (fails same why e) sent fault says is) = rw same (record {
+  ends_leave at after offer hand sent result d s (stops request h came (fails same why e) fault says is) = rw same (record {
     digests = d;
     stands = s;
     refuses = λ w r.
         let fault_is : fault ≡ Host (host.Refused w) = cc in absurd (never_refused why came sent fault w e says fault_is);
   })
-  ends_leave at after offer hand result d s (stops request h came (asks call c t) sent fault says is) =
+  ends_leave at after offer hand sent result d s (stops request h came (asks call c t) fault says is) =
       let l = call_leaves at after offer request call c d s in
       record {
         digests = l.digests;
@@ -91,12 +92,12 @@ module _ (variant : Variant) (meaning : Meaning) (key barrier : List ℕ) where
             };
       }
 
-  pub chain_ends : (offer : List ℕ) (before after : Standing) (told : List ServedCall) (hand : List ℕ → Type 0)
-      (result : Result Unit SessionFault) → Chain variant meaning offer before after told hand result → (d : Digests)
+  pub chain_ends : {sent : List ℕ} (offer : List ℕ) (before after : Standing) (told : List ServedCall) (hand : List ℕ → Type 0)
+      (result : Result Unit SessionFault) → Chain variant meaning offer before after told hand sent result → (d : Digests)
       → StandsAt i before d → EndsAt i after (offer_after offer told) hand result
-  chain_ends offer before after told hand result c d s =
+  chain_ends {sent} offer before after told hand result c d s =
       let there = calls_leave offer before c.at told c.calls d s in
-      ends_leave c.at after (offer_after offer told) hand result there.digests there.stands c.ends
+      ends_leave c.at after (offer_after offer told) hand sent result there.digests there.stands c.ends
 
 -- What an offer may be refused for, and that this is lost power exactly where the digests show that.
 

@@ -10,24 +10,28 @@ use Rattle.mm_host.proofs.Below.{SessionStopsAtOnce, IsWaiting, Saw, one_waiting
 use Rattle.mm_host.proofs.Below.{HostStanding, host_standing, SessionStanding, host_of}
 use Rattle.mm_recovery.specs.declared.fault.HostFault.TheVariants as host
 use Rattle.mm_host.specs.Sessions.{SessionGoesOn, ServesAllLines}
+use Rattle.mm_host.proofs.Below.{Lines, WriteFault}
+use Rattle.mm_host.specs.Continuation.{last_bytes_in}
+use Rattle.mm_host.proofs.InPart.{front_of, store_untold}
 use Rattle.mm_host.proofs.Lines.{answered_call, asks, by_end, by_told, IsRead, line_tries, lines_in, never_refused, TellsCall}
 use Rattle.mm_host.proofs.Lines.{tried_answer, next_line, read_of, tells_call, Tries}
 use Rattle.mm_host.specs.Refusals.{CallsInTurn}
 
 -- How a session ends behind its calls: it rests, and isn't refused; or a request in hand is tried, and what comes ends it.
 pub data Ends (variant : Variant) (meaning : Meaning) (at final : Standing) (offer : List ℕ) (hand : List ℕ → Type 0)
-    (result : Result Unit SessionFault) : Type 0 where
-  rests : final ≡ at → ((why : Refusal) → result ≡ Err (Host (host.Refused why)) → ⊥) → Ends variant meaning at final offer hand result
+    (last : List ℕ) (result : Result Unit SessionFault) : Type 0 where
+  rests : final ≡ at → ((why : Refusal) → result ≡ Err (Host (host.Refused why)) → ⊥) → (result ≡ Err (Lines WriteFault) → ⊥)
+      → Ends variant meaning at final offer hand last result
   stops : (request : List ℕ) → hand request → (came : Result Resumed HostFault) → Tries variant meaning at final offer request came
-      → (sent : List ℕ) (fault : SessionFault) → SendsReply came sent (Err fault) → result ≡ Err fault
-      → Ends variant meaning at final offer hand result
+      → (fault : SessionFault) → SendsReply came last (Err fault) → result ≡ Err fault
+      → Ends variant meaning at final offer hand last result
 
 -- a session as its calls
 pub record Chain (variant : Variant) (meaning : Meaning) (offer : List ℕ) (before final : Standing) (told : List ServedCall)
-    (hand : List ℕ → Type 0) (result : Result Unit SessionFault) : Type 0 where
+    (hand : List ℕ → Type 0) (last : List ℕ) (result : Result Unit SessionFault) : Type 0 where
   pub at : Standing
   pub calls : CallsInTurn variant meaning offer before told at
-  pub ends : Ends variant meaning at final (offer_after offer told) hand result
+  pub ends : Ends variant meaning at final (offer_after offer told) hand last result
 
 -- What a start came to: nothing was asked, as memory was wanting or the store failed; nothing waits, and it begins with these bytes;
 -- or a call that offers them was made for what waits.
@@ -71,14 +75,14 @@ module _ {variant : Variant} {meaning : Meaning} {from : SessionPlace} {new : Ho
   abbrev pub InHand : List ℕ → Type 0
   InHand request = (held : List ℕ) × BytesBeginWith l.more request held
 
-  abbrev pub lines_chain : Chain variant meaning (snapshot_at from.last) from.host.standing new.standing l.calls InHand result
+  abbrev pub lines_chain : Chain variant meaning (snapshot_at from.last) from.host.standing new.standing l.calls InHand l.last result
   lines_chain = record {
     at = l.at.host.standing;
     calls = served_calls variant meaning from l.at l.calls l.serves;
     ends = rw (last_offer variant meaning from l.at l.calls l.serves)
-        (by_end (λ r. Ends variant meaning l.at.host.standing new.standing (snapshot_at l.at.last) InHand r) result l
-        (λ fault e. stops e.line (e.held, e.begins) e.came (line_tries e.asks) l.last fault e.says refl)
-        (λ by r. rests (ap (λ (h : HostStanding). h.standing) r.still) (λ why e. rw e at by)));
+        (by_end (λ r. Ends variant meaning l.at.host.standing new.standing (snapshot_at l.at.last) InHand l.last r) result l
+        (λ fault e. stops e.line (e.held, e.begins) e.came (line_tries e.asks) fault e.says refl)
+        (λ by r. rests (ap (λ (h : HostStanding). h.standing) r.still) (λ why e. rw e at by) (λ e. rw e at by)));
   }
 
 module _ (variant : Variant) (meaning : Meaning) (before after : Standing) where
@@ -155,19 +159,24 @@ module _ (variant : Variant) (meaning : Meaning) (before after : Standing) (offe
       rw (some, a.1) (record { calls = λ lines at h. (after, a.2, h); offers = λ lines. refl; told = λ lines rest. refl })
 
   -- it stops at once
+  fault_is : (fault told : SessionFault) (result : Result Unit SessionFault) → result ≡ Err fault → result ≡ Err told → fault ≡ told
+  fault_is fault told result e f = cc
+
   at_once : (waiting : Option PendingRecord) (begun : Result Resumed HostFault) (taken sent : List ℕ) (result : Result Unit SessionFault)
       → SessionStopsAtOnce begun taken sent result → Begun variant meaning before after offer waiting begun
       → Ends variant meaning before after offer
-      (λ (request : List ℕ). (p : PendingRecord) × (waiting ≡ Some p) × (p.request ≡ request)) result
+      (λ (request : List ℕ). (p : PendingRecord) × (waiting ≡ Some p) × (p.request ≡ request)) sent result
   at_once waiting begun taken sent result s (failed same why e) =
       rests same (λ (refusal : Refusal) (r : result ≡ Err (Host (host.Refused refusal))).
       let is : Err s.fault ≡ Err (Host (host.Refused refusal)) = sym s.stops ∙ r in
       never_refused why begun sent s.fault refusal e s.says (cc))
+      (λ w. store_untold why begun sent s.fault e s.says (fault_is s.fault (Lines WriteFault) result s.stops w))
   at_once waiting begun taken sent result s (starts same none e) =
       rests same (λ refusal r. by_told (λ (f : SessionFault). ⊥) begun sent s.fault s.says (λ (why : HostFault) (w : begun ≡ Err why). cc)
       (λ n. n (ap reply_text e)))
+      (λ w. (front_of begun sent s.fault s.says (fault_is s.fault (Lines WriteFault) result s.stops w)).0 (ap reply_text e))
   at_once waiting begun taken sent result s (repeats p some call c t) =
-      stops p.request (p, some, refl) begun (asks call c t) sent s.fault s.says s.stops
+      stops p.request (p, some, refl) begun (asks call c t) s.fault s.says s.stops
 
 module _ {variant : Variant} {meaning : Meaning} {old new : SessionStanding} {result : Result Unit SessionFault}
     (s : IsSession variant meaning old new result) where
@@ -181,7 +190,8 @@ module _ {variant : Variant} {meaning : Meaning} {old new : SessionStanding} {re
           (rw e at begun_by)
 
       chain_by : (goes : SessionGoesAfterResume variant meaning s.begun s.middle (host_of new) new.left s.taken s.sent result)
-          → Chain variant meaning offer old.standing new.standing (served_calls_in waiting goes) (IsInHand waiting goes) result
+          → Chain variant meaning offer old.standing new.standing (served_calls_in waiting goes) (IsInHand waiting goes)
+          (last_bytes_in goes) result
       chain_by (inl e) = record {
         at = old.standing;
         calls = refl;
@@ -229,7 +239,7 @@ module _ {variant : Variant} {meaning : Meaning} {old new : SessionStanding} {re
         (saw_two slots r.finds.two old.kept r.finds.middle r.middle r.waiting slots_told r.finds.reads r.finds.goes) r.goes
 
     pub chain_of : Chain variant meaning (first_offer slots waiting) old.standing new.standing (served_calls_in waiting s.goes)
-        (IsInHand waiting s.goes) result
+        (IsInHand waiting s.goes) (last_bytes_in s.goes) result
     chain_of = chain_by (first_offer slots waiting) waiting begun_told s.goes
 
     pub among_input : (input : List ℕ) → old.left ≡ Some input
@@ -248,7 +258,8 @@ module _ {variant : Variant} {meaning : Meaning} {old new : SessionStanding} {re
   pub record SomeChain : Type 0 where
     pub offer : List ℕ
     pub waiting : Option PendingRecord
-    pub chain : Chain variant meaning offer old.standing new.standing (served_calls_in waiting s.goes) (IsInHand waiting s.goes) result
+    pub chain : Chain variant meaning offer old.standing new.standing (served_calls_in waiting s.goes) (IsInHand waiting s.goes)
+        (last_bytes_in s.goes) result
 
   pub some_chain : SomeChain
   some_chain =

@@ -164,16 +164,16 @@ module _ {all others : List (List ℕ)} {asked : List Batch} {i : Instance} {fin
       reach_then i.variant i old h.0 final (laws.reach old h.0 offer c.line (Ok (batch_answer_of c.answer)) h.1.goes)
       (calls_reach c.answer.snapshot h.0 at calls h.2 r)
 
-  pub ends_reach : {at : Standing} {offer : List ℕ} {hand : List ℕ → Type 0} {result : Result Unit SessionFault}
-      → Ends i.variant i.meaning at final offer hand result → Reaches i.variant i at final
-  ends_reach {at} (rests same none) = reach_same i.variant i at final same
-  ends_reach {at} (stops request h came (fails same why e) sent fault says is) = reach_same i.variant i at final same
-  ends_reach {at} {offer} (stops request h came (asks call c t) sent fault says is) =
+  pub ends_reach : {at : Standing} {offer : List ℕ} {hand : List ℕ → Type 0} {sent : List ℕ} {result : Result Unit SessionFault}
+      → Ends i.variant i.meaning at final offer hand sent result → Reaches i.variant i at final
+  ends_reach {at} (rests same none unwritten) = reach_same i.variant i at final same
+  ends_reach {at} (stops request h came (fails same why e) fault says is) = reach_same i.variant i at final same
+  ends_reach {at} {offer} (stops request h came (asks call c t) fault says is) =
       laws.reach at final offer request (batch_result_of call) c.goes
 
   pub chain_reaches : {offer : List ℕ} {before : Standing} {told : List ServedCall} {hand : List ℕ → Type 0}
-      {result : Result Unit SessionFault}
-      → Chain i.variant i.meaning offer before final told hand result → Reaches i.variant i before final
+      {sent : List ℕ} {result : Result Unit SessionFault}
+      → Chain i.variant i.meaning offer before final told hand sent result → Reaches i.variant i before final
   chain_reaches {offer} {before} {told} c = calls_reach offer before c.at told c.calls (ends_reach c.ends)
 
   -- calls one after another

@@ -6,6 +6,7 @@ mod Counting
 mod Putting
 mod Leading
 mod OptLeading
+mod InPart
 mod CallsMade
 mod InTurn
 mod LineStep

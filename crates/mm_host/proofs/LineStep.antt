@@ -215,6 +215,7 @@ module _ {all others : List (List ℕ)} {asked : List Batch} {i : Instance} {fin
       whole = λ n. whole (λ e. n (ap (λ (f : HostFault). Err f) e));
       grown = inl refl;
       only = inl refl;
+      answers = λ answer e. absurd (cc);
       room = omega (arith, most, settled.at_end);
       refuses = λ w e. absurd (never_stored why w (cc));
       powered = λ h. h;
@@ -321,6 +322,7 @@ module _ {all others : List (List ℕ)} {asked : List Batch} {i : Instance} {fin
           whole = λ n. fits;
           grown = inl same;
           only = inl same;
+          answers = λ answer e. absurd (cc);
           room = omega (arith, full, settled.at_end, ap total_of same);
           refuses = λ v e.
               let is : refusal_fault why ≡ host.Refused v = cc in

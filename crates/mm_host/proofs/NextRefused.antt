@@ -13,8 +13,8 @@ use Rattle.mm_host.proofs.Below.{SessionStopsInLine, lines_with_front, InBasic, 
 use Rattle.mm_host.proofs.Below.{ReadsPendingRecord}
 use Rattle.mm_host.proofs.Below.{HostStanding, SessionStanding, host_of}
 use Rattle.std.specs.Prelude.{◌<◌, IfSome, nat_le}
-use Rattle.mm_lines.specs.InputLaws.{lines_of-unbroken}
-use Rattle.mm_lines.specs.declared.replay_fault.ReplayFault.TheVariants.{ReadFault}
+use Rattle.mm_base.specs.InputLaws.{lines_of-unbroken}
+use Rattle.mm_base.specs.declared.replay_fault.ReplayFault.TheVariants.{ReadFault}
 use Rattle.mm_seal.specs.Cell.{cell_spelling}
 use Rattle.mm_seal.specs.CellLaws.{cell_spelling-injective}
 use Rattle.mm_seal.specs.ReadingLaws.{spells_read}

@@ -2,6 +2,7 @@
 use Rattle.mm_host.proofs.Below.{◌≡◌, ◌+◌, ◌-◌, ◌≤◌, ℕ, Bool, true, false, List, [], ◌∷◌, ◌++◌, Option, Some, Result, Err, length, arith}
 use Rattle.mm_host.proofs.Below.{ap, inl, inr, length-append, last_position, Variant, Standing, Batch, One, Meaning, Instance, History}
 use Rattle.mm_host.proofs.Below.{total_of, IsBatchStep, PendingRecord, Slots, slot_front, IsWaiting, ServedCall}
+use Rattle.mm_host.specs.Continuation.{last_bytes_in}
 use Rattle.mm_host.proofs.Below.{served_lines, AreAmong, ContinuesTo, IsInHand, CallsRunOver, SessionFault, Host, IsSession}
 use Rattle.mm_host.proofs.Below.{served_calls_in}
 use Rattle.mm_host.proofs.Below.{SessionStanding}
@@ -36,7 +37,7 @@ module _ {variant : Variant} {meaning : Meaning} {old new : SessionStanding} {re
     (among : AreAmong (served_calls_in waiting s.goes) (IsInHand waiting s.goes) requests)
     (room : total_of y.batches + length requests ≤ last_position)
     (c : ContinuesTo all others asked i y waiting new.standing new.kept (served_calls_in waiting s.goes) (IsInHand waiting s.goes)
-    result) where
+    (last_bytes_in s.goes) result) where
   -- the requests at the end are those that were told, with none in hand
   few : result ≡ Err (Host (host.Refused Full)) → length c.runs.requests ≡ last_position
   few full = elim c.runs.committed [
@@ -45,10 +46,11 @@ module _ {variant : Variant} {meaning : Meaning} {old new : SessionStanding} {re
     | inr untold ↦ let clash : false ≡ true = rw full at untold.untold in absurd (cc)
   ]
 
-  by_ends : {at : Standing} {offer : List ℕ} → Ends variant meaning at new.standing offer (IsInHand waiting s.goes) result
+  by_ends : {at : Standing} {offer : List ℕ}
+      → Ends variant meaning at new.standing offer (IsInHand waiting s.goes) (last_bytes_in s.goes) result
       → result ≡ Err (Host (host.Refused Full)) → ⊥
-  by_ends (rests same never) full = never Full full
-  by_ends (stops request h came t sent fault says ends) full =
+  by_ends (rests same never unwritten) full = never Full full
+  by_ends (stops request h came t fault says ends) full =
       let first = among.in_hand request h in
       omega (
         arith,

@@ -13,7 +13,9 @@ use Rattle.mm_host.proofs.Below.{digest_level, list_level, AreShown, StandsAt, f
 use Rattle.mm_host.proofs.Below.{agrees_is, foreign_may, is_agrees, counted_open, foreign_agrees, holds_open, within_items, within_of}
 use Rattle.mm_host.proofs.Below.{foreign_all, holds_made, foreign_messages, history_with_values, taking_is, names_alike, shown_back}
 use Rattle.mm_host.proofs.Below.{shown_front, shown_shut, MayStart, RunsOnceFrom, not_lost, was_powered, append-nil, SessionRunsOnce}
-use Rattle.mm_host.proofs.Below.{counted_part}
+use Rattle.mm_host.proofs.Below.{counted_part, Answered, Lines, WriteFault, answer_reply, batch_answer_of}
+use Rattle.mm_call.specs.HistoryGrowth as growth
+use Rattle.mm_schedule.specs.Machine.{IsBatchStep}
 use Rattle.mm_host.proofs.Below.{SessionStanding, session_standing}
 use Rattle.mm_model.specs.declared.refusal.Refusal.TheVariants as refusal
 use Rattle.mm_store.specs.declared.fault.StoreFault.TheVariants as fault
@@ -22,7 +24,10 @@ use Rattle.mm_host.proofs.Leading.{Laws, Reaches, basic_laws}
 use Rattle.mm_host.proofs.CallsMade.{Ends, among_input, calls_split, chain_of, rests, stops}
 use Rattle.mm_host.proofs.InTurn.{AfterTurns, May, MindsNothing, StandsIn, calls_reach, ends_reach, met_last, pending_for, turns}
 use Rattle.mm_host.proofs.InTurn.{chain_reaches}
-use Rattle.mm_host.proofs.SessionRuns.{line_committed, runs_to}
+use Rattle.mm_host.proofs.SessionRuns.{line_committed, runs_to, same_requests}
+use Rattle.mm_host.proofs.InPart.{store_untold, told_in_part}
+use Rattle.mm_host.proofs.Leading.{steps_again, steps_fresh}
+use Rattle.mm_host.specs.Continuation.{last_bytes_in}
 use Rattle.mm_host.proofs.Lines.{asks, fails, never_refused, never_stored, TellsCall, told_refused}
 use Rattle.mm_digest.specs.Messages.{extended_digest_of}
 use Rattle.mm_platform.specs.Steps.{StepGoes, ReadCell, items_beside}
@@ -71,14 +76,38 @@ call_refused (Ok answer) came why (inr t) e =
     absurd (never_stored t.0 why (cc))
 
 module _ {all others : List (List ℕ)} {asked : List Batch} {i : Instance} {final : Standing} (laws : Laws all others asked i final) where
+  -- an answer that is told is a step of the machine
+  answered_steps : (y after : History) (offer request : List ℕ) (answer : Answer)
+      → growth.HistoryGrows i y offer (One request) after (Ok (batch_answer_of answer))
+      → IsBatchStep i.meaning (requests_of y.batches) (One request) (answer_reply answer) (requests_of after.batches)
+  answered_steps y after offer request answer (growth.kept same answers) =
+      let r = answers (batch_answer_of answer) refl in
+      steps_again i y after r.ends.front request answer r.answer_is same r.ends.is
+  answered_steps y after offer request answer (growth.grown content right at more answers) =
+      steps_fresh i y after request answer (answers (batch_answer_of answer) refl) more
+
+  pub call_steps : (y after : History) (offer request : List ℕ) (call : Result Answer Refusal) (came : Result Resumed HostFault)
+      (answer : Answer) → TellsCall call came → came ≡ Ok (Answered answer)
+      → growth.HistoryGrows i y offer (One request) after (batch_result_of call)
+      → IsBatchStep i.meaning (requests_of y.batches) (One request) (answer_reply answer) (requests_of after.batches)
+  call_steps y after offer request (Ok given) came answer (inl told) e g =
+      let same : given ≡ answer = cc in
+      subst (λ (a : Answer). IsBatchStep i.meaning (requests_of y.batches) (One request) (answer_reply a) (requests_of after.batches)) same
+      (answered_steps y after offer request given g)
+  call_steps y after offer request (Ok given) came answer (inr failed) e g =
+      let clash : Ok (Answered answer) ≡ Err (store_fault_as failed.0) = sym e ∙ failed.1 in absurd (cc)
+  call_steps y after offer request (Err why) came answer t e g =
+      let clash : Ok (Answered answer) ≡ Err (refusal_fault why) = sym e ∙ t in absurd (cc)
+
   -- how a session ends behind what was told
-  module _ (y z : History) (first : List ℕ) (at : Standing) (told : List ServedCall) (hand : List ℕ → Type 0) (stands : StandsFor i at z)
+  module _ (y z : History) (first : List ℕ) (at : Standing) (told : List ServedCall) (hand : List ℕ → Type 0) (sent : List ℕ)
+      (stands : StandsFor i at z)
       (within : IsWithin all others asked i z) (run : CallsRunOver i.meaning (requests_of y.batches) told (requests_of z.batches))
       (powered : life_of i.variant y ≢ LostLife → life_of i.variant z ≢ LostLife) where
     rests_run : (result : Result Unit SessionFault) → final ≡ at → ((why : Refusal) → result ≡ Err (Host (host.Refused why)) → ⊥)
-        → EndsRun all others asked i y first final told hand result
-    rests_run result same none = record {
-      runs = runs_to y told hand z (rw same stands) within run (inl refl) powered;
+        → (result ≡ Err (Lines WriteFault) → ⊥) → EndsRun all others asked i y first final told hand sent result
+    rests_run result same none unwritten = record {
+      runs = runs_to y told hand z (rw same stands) within run (inl refl) (λ e. absurd (unwritten e)) powered;
       refuses = λ why r. absurd (none why r);
     }
 
@@ -86,18 +115,23 @@ module _ {all others : List (List ℕ)} {asked : List Batch} {i : Instance} {fin
         → ((request : List ℕ) (call : Result Answer Refusal) → hand request
         → IsCall i.variant i.meaning at final (offer_after first told) request call
         → Met all others asked i z final (offer_after first told) (pending_for request) (batch_result_of call))
-        → Ends i.variant i.meaning at final (offer_after first told) hand result
-        → EndsRun all others asked i y first final told hand result
-    ends_run result meets (rests same none) = rests_run result same none
-    ends_run result meets (stops request h came (fails same why e) sent fault says is) =
+        → Ends i.variant i.meaning at final (offer_after first told) hand sent result
+        → EndsRun all others asked i y first final told hand sent result
+    ends_run result meets (rests same none unwritten) = rests_run result same none unwritten
+    ends_run result meets (stops request h came (fails same why e) fault says is) =
         rests_run result same (λ (w : Refusal) (r : result ≡ Err (Host (host.Refused w))).
         let fault_is : fault ≡ Host (host.Refused w) = cc in never_refused why came sent fault w e says fault_is)
-    ends_run result meets (stops request h came (asks call c t) sent fault says is) =
+        (λ (w : result ≡ Err (Lines WriteFault)).
+        let fault_is : fault ≡ Lines WriteFault = cc in store_untold why came sent fault e says fault_is)
+    ends_run result meets (stops request h came (asks call c t) fault says is) =
         let m = meets request call h c in
         rw is (record {
           runs = runs_to y told hand m.after m.stands m.within run
               (line_committed z m.after request came sent fault hand h says (only_by call came t m.only)
               (grows i z (pending_for request) (offer_after first told) m.after (batch_result_of call) m.comes))
+              (λ w. told_in_part i.meaning hand (requests_of z.batches) (requests_of m.after.batches) came sent fault says
+              (λ answer e. (request, h, call_steps z m.after (offer_after first told) request call came answer t e m.comes))
+              (same_requests z m.after came (only_by call came t m.only)) (cc))
               (λ p. m.powered (powered p));
           refuses = λ (why : Refusal) (r : Err fault ≡ Err (Host (host.Refused why))).
               let is = call_refused call came why t (told_refused came sent fault why says (cc)) in
@@ -135,7 +169,7 @@ module _ {all others : List (List ℕ)} {asked : List Batch} {i : Instance} {fin
     from_there calls after r = rw (laws.batches y z here.same) at r
 
     pub runs_once : RunsOnce all others asked i z slots waiting left final (served_calls_in waiting s.goes)
-        (IsInHand waiting s.goes) requests result
+        (IsInHand waiting s.goes) (last_bytes_in s.goes) requests result
     runs_once =
         let chain = chain_of s slots waiting slots_told w in
         let told : List ServedCall = served_calls_in waiting s.goes in
@@ -149,7 +183,7 @@ module _ {all others : List (List ℕ)} {asked : List Batch} {i : Instance} {fin
           ends = λ among.
               let rest : List (List ℕ) = among.served.0 in
               let t = turns_to told chain.at rest among.served.1 (ends_reach laws chain.ends) chain.calls in
-              ends_run z t.after first chain.at told (IsInHand waiting s.goes) t.here.stands t.here.within
+              ends_run z t.after first chain.at told (IsInHand waiting s.goes) (last_bytes_in s.goes) t.here.stands t.here.within
               (from_there told (requests_of t.after.batches) t.run)
               (λ p. t.powered (powered p)) result
               (λ request call h c.

@@ -16,7 +16,11 @@ use Rattle.mm_host.proofs.Below.{HostStanding, host_standing, session_standing}
 use Rattle.mm_recovery.specs.declared.fault.HostFault.TheVariants as host
 use Rattle.mm_host.proofs.CallsMade.{first_told, InHand, lines_chain, served_calls}
 use Rattle.mm_host.proofs.InTurn.{calls_reach, chain_reaches, ends_reach, May, met_last, StandsIn}
-use Rattle.mm_host.proofs.Leading.{Laws, Reaches, CallsRunOver-append, same_pending, unspoiled}
+use Rattle.mm_host.proofs.Below.{answer_reply, arith, IsAwaited}
+use Rattle.mm_host.specs.Continuation.{IsToldInPart, last_bytes_in}
+use Rattle.mm_schedule.specs.Machine.{IsBatchStep}
+use Rattle.mm_host.proofs.InPart.{told_in_part}
+use Rattle.mm_host.proofs.Leading.{Laws, Reaches, CallsRunOver-append, answered_first, same_pending, unspoiled}
 use Rattle.mm_host.proofs.LineStep.{between_told, IsBetween, IsReady, line_goes, line_last, line_unwritten, ready_first}
 use Rattle.mm_host.proofs.LineStep.{offer_then, waiting_then}
 use Rattle.mm_host.proofs.Made.{among_next, AreMade, by_asked, IsFirstAsked, IsLineAsked, IsWritten}
@@ -66,20 +70,27 @@ waiting_committed : (y after : History) (waiting : Option PendingRecord) (begun 
 waiting_committed y after None begun sent fault hand h s o g = inl (ap requests_of g)
 waiting_committed y after (Some p) begun sent fault hand h s o g = line_committed y after p.request begun sent fault hand (h p refl) s o g
 
+pub same_requests : (y z : History) (came : Result Resumed HostFault) → (z.batches ≡ y.batches) ⊎ RequestMayBeCommitted came
+    → (requests_of z.batches ≡ requests_of y.batches) ⊎ RequestMayBeCommitted came
+same_requests y z came (inl same) = inl (ap requests_of same)
+same_requests y z came (inr may) = inr may
+
 -- behind what was told
 module _ {all others : List (List ℕ)} {asked : List Batch} {i : Instance} (y : History) (told : List ServedCall)
-    (hand : List ℕ → Type 0) where
+    (hand : List ℕ → Type 0) {last : List ℕ} where
   abbrev pub runs_to : {final : Standing} {result : Result Unit SessionFault} {requests : List (List ℕ)} (after : History)
       → StandsFor i final after → IsWithin all others asked i after → CallsRunOver i.meaning (requests_of y.batches) told requests
       → (requests_of after.batches ≡ requests) ⊎ HasUntoldRequest hand result requests (requests_of after.batches)
-      → (life_of i.variant y ≢ LostLife → life_of i.variant after ≢ LostLife) → RunsTo all others asked i y final told hand result
-  runs_to {requests = requests} after stands within run committed powered = record {
+      → (result ≡ Err (Lines WriteFault) → IsToldInPart i.meaning hand last requests (requests_of after.batches))
+      → (life_of i.variant y ≢ LostLife → life_of i.variant after ≢ LostLife) → RunsTo all others asked i y final told hand last result
+  runs_to {requests = requests} after stands within run committed in_part powered = record {
     after = after;
     stands = stands;
     within = within;
     requests = requests;
     run = run;
     committed = committed;
+    in_part = in_part;
     unspoiled = unspoiled i.variant others after within.sound within.outside;
     powered = powered;
   }
@@ -87,17 +98,18 @@ module _ {all others : List (List ℕ)} {asked : List Batch} {i : Instance} (y :
 -- where this waited first
 module _ {all others : List (List ℕ)} {asked : List Batch} {i : Instance} (y : History) (first : Option PendingRecord)
     (told : List ServedCall)
-    (hand : List ℕ → Type 0) where
+    (hand : List ℕ → Type 0) (last : List ℕ) where
   -- by what is left of the history and of the slots
   ends_at : {final : Standing} {u : History} {waiting : Option PendingRecord} {came : Result Resumed HostFault} {requests : List (List ℕ)}
       (new : StoreStanding) (result : Result Unit SessionFault) (c : CameTo all others asked i u waiting final new came)
       → (came ≡ Err host.Store → result ≡ Err (Host host.Store)) → CallsRunOver i.meaning (requests_of y.batches) told requests
       → AreToldOnce (total_of y.batches) first told
       → (requests_of c.after.batches ≡ requests) ⊎ HasUntoldRequest hand result requests (requests_of c.after.batches)
+      → (result ≡ Err (Lines WriteFault) → IsToldInPart i.meaning hand last requests (requests_of c.after.batches))
       → RefusesAs result i.variant c.after → (life_of i.variant y ≢ LostLife → life_of i.variant c.after ≢ LostLife)
-      → ContinuesTo all others asked i y first final new told hand result
-  ends_at new result c stored run once committed refuses powered = record {
-    runs = runs_to y told hand c.after c.stands c.within run committed powered;
+      → ContinuesTo all others asked i y first final new told hand last result
+  ends_at new result c stored run once committed in_part refuses powered = record {
+    runs = runs_to y told hand c.after c.stands c.within run committed in_part powered;
     once = once;
     room = c.room;
     slots_after = c.slots_after;
@@ -114,23 +126,40 @@ module _ {all others : List (List ℕ)} {asked : List Batch} {i : Instance} (y :
       → AreToldOnce (total_of y.batches) first told
       → (life_of i.variant y ≢ LostLife → life_of i.variant s.after ≢ LostLife)
       → IsAtRest at (host_standing final new) sent → IsByInput result
-      → ContinuesTo all others asked i y first final new told hand result
+      → ContinuesTo all others asked i y first final new told hand last result
   rests_at at new sent result s run once powered e by =
       rw (ap (λ (h : HostStanding). h.standing) e.still, ap (λ (h : HostStanding). h.kept) e.still)
       (ends_at at.host.kept result (came_by s.waiting (Ok at.last) s.came) (λ clash. absurd (cc)) run once (inl refl)
-      (rest_refuses result i.variant s.after by) powered)
+      (λ w. absurd (subst IsByInput w by)) (rest_refuses result i.variant s.after by) powered)
 
   -- what came ends it
+  came_steps : {final : Standing} (z : History) (waiting : Option PendingRecord) (new : StoreStanding) (came : Result Resumed HostFault)
+      (c : CameTo all others asked i z waiting final new came) → ((p : PendingRecord) → waiting ≡ Some p → hand p.request)
+      → ((p : PendingRecord) → waiting ≡ Some p → IsAwaited z p) → (answer : Answer) → came ≡ Ok (Answered answer)
+      → (request : List ℕ) × hand request
+      × IsBatchStep i.meaning (requests_of z.batches) (One request) (answer_reply answer) (requests_of c.after.batches)
+  came_steps z waiting new came c h awaits answer e =
+      let a = c.answers answer e in
+      let run = answered_first i z c.after a.p answer (awaits a.p a.waits) a.position a.answer_is
+      (subst (λ (w : Option PendingRecord). IsGrown z w c.after) a.waits c.grown) in (
+        a.p.request,
+        h a.p a.waits,
+        subst (λ (rs : List (List ℕ)). IsBatchStep i.meaning (requests_of z.batches) (One a.p.request) (answer_reply answer) rs)
+            (sym run.2) run.1,
+      )
+
   stops_with : {final : Standing} (z : History) (waiting : Option PendingRecord) (new : StoreStanding) (came : Result Resumed HostFault)
-      (sent : List ℕ) (fault : SessionFault) → CallsRunOver i.meaning (requests_of y.batches) told (requests_of z.batches)
+      (fault : SessionFault) → CallsRunOver i.meaning (requests_of y.batches) told (requests_of z.batches)
       → AreToldOnce (total_of y.batches) first told
       → (life_of i.variant y ≢ LostLife → life_of i.variant z ≢ LostLife) → CameTo all others asked i z waiting final new came
-      → ((p : PendingRecord) → waiting ≡ Some p → hand p.request) → SendsReply came sent (Err fault)
-      → ContinuesTo all others asked i y first final new told hand (Err fault)
-  stops_with z waiting new came sent fault run once powered c h s =
-      ends_at new (Err fault) c (λ e. ap (λ (x : SessionFault). Err x) (store_came came sent fault s e)) run once
-      (waiting_committed z c.after waiting came sent fault hand h s c.only c.grown)
-      (by_told (λ (f : SessionFault). RefusesAs {T = Unit} (Err f) i.variant c.after) came sent fault s
+      → ((p : PendingRecord) → waiting ≡ Some p → hand p.request) → ((p : PendingRecord) → waiting ≡ Some p → IsAwaited z p)
+      → SendsReply came last (Err fault) → ContinuesTo all others asked i y first final new told hand last (Err fault)
+  stops_with z waiting new came fault run once powered c h awaits s =
+      ends_at new (Err fault) c (λ e. ap (λ (x : SessionFault). Err x) (store_came came last fault s e)) run once
+      (waiting_committed z c.after waiting came last fault hand h s c.only c.grown)
+      (λ w. told_in_part i.meaning hand (requests_of z.batches) (requests_of c.after.batches) came last fault s
+      (came_steps z waiting new came c h awaits) (same_requests z c.after came c.only) (cc))
+      (by_told (λ (f : SessionFault). RefusesAs {T = Unit} (Err f) i.variant c.after) came last fault s
       (λ (f : HostFault) (e : came ≡ Err f). refuses_by f i.variant c.after (λ (why : Refusal) (is : f ≡ host.Refused why).
       c.refuses why (e ∙ ap (λ (x : HostFault). Err x) is))) (λ n. tt)) (λ p. c.powered (powered p))
 
@@ -290,19 +319,20 @@ module _ {all others : List (List ℕ)} {asked : List Batch} {i : Instance} {fin
     at_once : new ≡ s.middle.kept → (e : SessionStopsAtOnce s.begun s.taken s.sent result)
         → RecoversTo all others asked i y slots waiting (host_standing final s.middle.kept) s.begun
         → ContinuesTo all others asked i y waiting final new []
-        (λ (request : List ℕ). (p : PendingRecord) × (waiting ≡ Some p) × (p.request ≡ request)) result
+        (λ (request : List ℕ). (p : PendingRecord) × (waiting ≡ Some p) × (p.request ≡ request)) s.sent result
     at_once same e r =
         let hand : List ℕ → Type 0 = λ request. (p : PendingRecord) × (waiting ≡ Some p) × (p.request ≡ request) in
-        rw e.stops (rw same (stops_with y waiting [] hand y waiting s.middle.kept s.begun s.sent e.fault refl (none_told waiting fits)
-        (λ p. p) (came_by waiting s.begun r)
-        (λ p w. (p, w, refl)) e.says))
+        rw e.stops (rw same (stops_with y waiting [] hand s.sent y waiting s.middle.kept s.begun e.fault refl (none_told waiting fits)
+        (λ p. p) (came_by waiting s.begun r) (λ p w. (p, w, refl))
+        (λ p w. (subst (λ (x : Option PendingRecord). FitsBy i slots y x) w fits).0) e.says))
 
     -- the lines
     serves_on : (g : SessionGoesOn i.variant i.meaning s.begun s.middle (host_standing final new) left' s.taken s.sent result)
         → (rest : List (List ℕ)) → served_lines (first_served_call waiting g.first ++ g.lines.calls) ++ rest ≡ requests
         → IsLineAsked i.variant i.meaning (length g.lines.calls + 1) g.lines.at (host_standing final new) left' g.lines.more g.lines.last
         rest result g.lines.ends
-        → ContinuesTo all others asked i y waiting final new (first_served_call waiting g.first ++ g.lines.calls) (InHand g.lines) result
+        → ContinuesTo all others asked i y waiting final new (first_served_call waiting g.first ++ g.lines.calls) (InHand g.lines)
+        g.lines.last result
     serves_on g rest served asks_line =
         let l = g.lines in
         let told : List ServedCall = first_served_call waiting g.first ++ l.calls in
@@ -318,24 +348,27 @@ module _ {all others : List (List ℕ)} {asked : List Batch} {i : Instance} {fin
         CallsRunOver-append i.meaning (requests_of y.batches) (requests_of r.0.after.batches) (requests_of c.settled.after.batches)
         (first_served_call waiting g.first) l.calls (went_first waiting g.first fits r.0).run c.run in
         let once : AreToldOnce (total_of y.batches) waiting told = once_first waiting g.first r.0 l.calls c.once in
-        by_asked (λ x. ContinuesTo all others asked i y waiting final new told (InHand l) x) rest result l asks_line
+        by_asked (λ x. ContinuesTo all others asked i y waiting final new told (InHand l) l.last x) rest result l asks_line
         (λ fault e first.
-        stops_with y waiting told (InHand l) c.settled.after (Some (record_for l.at.last e.line)) new e.came l.last fault run once
+        stops_with y waiting told (InHand l) l.last c.settled.after (Some (record_for l.at.last e.line)) new e.came fault run once
         (λ p. c.powered (r.0.powered p))
         (line_came laws l.at c.settled c.then_is rest c.ready e.line new e.came e.begins.within e.asks.recorded e.asks.middle e.asks.records
         e.asks.goes first)
-        (λ p k. rw (same_pending (record_for l.at.last e.line) p k) (e.held, e.begins)) e.says)
-        (λ by x. rests_at y waiting told (InHand l) l.at new l.last result c.settled run once (λ p. c.powered (r.0.powered p)) x by)
+        (λ p k. rw (same_pending (record_for l.at.last e.line) p k) (e.held, e.begins))
+        (λ p k. rw (same_pending (record_for l.at.last e.line) p k) (inl (omega (arith, c.settled.at_end)))) e.says)
+        (λ by x. rests_at y waiting told (InHand l) l.last l.at new l.last result c.settled run once (λ p. c.powered (r.0.powered p)) x by)
 
     ends_by : (goes : SessionGoesAfterResume i.variant i.meaning s.begun s.middle (host_standing final new) left' s.taken s.sent result)
         → AreMade s waiting requests goes
-        → ContinuesTo all others asked i y waiting final new (served_calls_in waiting goes) (IsInHand waiting goes) result
+        → ContinuesTo all others asked i y waiting final new (served_calls_in waiting goes) (IsInHand waiting goes)
+        (last_bytes_in goes) result
     ends_by (inl e) a = at_once (ap (λ (h : HostStanding). h.kept) e.0) e.1 (recovers_last (ap (λ (h : HostStanding). h.standing) e.0) a)
     ends_by (inr g) a = serves_on g a.0 a.1 a.2
 
     -- of the history of which was asked
     pub continues_by : AreMade s waiting requests s.goes → (life_of i.variant z ≢ LostLife → life_of i.variant y ≢ LostLife)
-        → ContinuesTo all others asked i z waiting final new (served_calls_in waiting s.goes) (IsInHand waiting s.goes) result
+        → ContinuesTo all others asked i z waiting final new (served_calls_in waiting s.goes) (IsInHand waiting s.goes)
+        (last_bytes_in s.goes) result
     continues_by made powered =
         let c = ends_by s.goes made in
         record {
@@ -347,6 +380,7 @@ module _ {all others : List (List ℕ)} {asked : List Batch} {i : Instance} {fin
             run = subst (λ (bs : List Batch). CallsRunOver i.meaning (requests_of bs) (served_calls_in waiting s.goes) c.runs.requests)
                 (laws.batches y z here.same) c.runs.run;
             committed = c.runs.committed;
+            in_part = c.runs.in_part;
             unspoiled = c.runs.unspoiled;
             powered = λ p. c.runs.powered (powered p);
           };
@@ -384,5 +418,6 @@ module _ {all others : List (List ℕ)} {asked : List Batch} {i : Instance} {fin
 
     pub continues_to : AreAmong (served_calls_in waiting s.goes) (IsInHand waiting s.goes) requests
         → (life_of i.variant z ≢ LostLife → life_of i.variant y ≢ LostLife)
-        → ContinuesTo all others asked i z waiting final new (served_calls_in waiting s.goes) (IsInHand waiting s.goes) result
+        → ContinuesTo all others asked i z waiting final new (served_calls_in waiting s.goes) (IsInHand waiting s.goes)
+        (last_bytes_in s.goes) result
     continues_to among powered = continues_by (made_among s.goes among) powered

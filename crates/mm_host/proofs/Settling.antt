@@ -36,6 +36,7 @@ pub record CameTo (all others : List (List ℕ)) (asked : List Batch) (i : Insta
   pub whole : came ≢ Err host.Store → FitsHistory i slots_after after
   pub grown : IsGrown y waiting after
   pub only : (after.batches ≡ y.batches) ⊎ RequestMayBeCommitted came
+  pub answers : (answer : Answer) → came ≡ Ok (Answered answer) → AnswersAt i y waiting after answer
   pub room : total_of after.batches ≤ last_position
   pub refuses : (why : Refusal) → came ≡ Err (host.Refused why) → RefusesAs {T = Unit} (Err (Host (host.Refused why))) i.variant after
   pub powered : life_of i.variant y ≢ LostLife → life_of i.variant after ≢ LostLife
@@ -84,6 +85,7 @@ module _ {all others : List (List ℕ)} {asked : List Batch} {i : Instance} {y :
     whole = λ n. r.fits;
     grown = r.grown;
     only = r.only;
+    answers = λ answer e. rw e at r.comes;
     room = fits_room i r.slots_after r.after r.fits;
     refuses = λ why e. refused_in why i.variant r.after (rw e at r.comes);
     powered = r.powered;

@@ -7,10 +7,10 @@ use Rattle.mm_host.proofs.Below.{BytesBeginWith, SessionStopsInLine, most_lines,
 use Rattle.mm_host.proofs.Below.{joined_lines, Answered, served_lines, replies_to, ServesLine, AsksAndTells, TurnSends, ServedCall}
 use Rattle.mm_host.proofs.Below.{turn_answer_of}
 use Rattle.mm_host.proofs.Below.{HostStanding, SessionStanding, session_standing, host_of, place_of}
-use Rattle.mm_lines.specs.ReadsNextLine.{ReadsNextLine}
-use Rattle.mm_lines.specs.declared.lines.LineFault.{LineFault}
-use Rattle.mm_lines.specs.declared.lines.Read.{Read}
-use Rattle.mm_lines.specs.declared.lines.Read.TheVariants.{Line}
+use Rattle.mm_base.specs.ReadsNextLine.{ReadsNextLine}
+use Rattle.mm_base.specs.declared.lines.LineFault.{LineFault}
+use Rattle.mm_base.specs.declared.lines.Read.{Read}
+use Rattle.mm_base.specs.declared.lines.Read.TheVariants.{Line}
 use Rattle.mm_store.specs.declared.fault.StoreFault.TheVariants as fault
 use Rattle.mm_recovery.specs.declared.fault.HostFault.TheVariants as host
 use Rattle.mm_host.proofs.Lines.{line_tries, tried_answer}

@@ -11,7 +11,7 @@ use Rattle.mm_host.specs.Below.{list_level, AreShown, IsIdle, fault_of, standing
 use Rattle.mm_host.specs.Below.{first_offer, IsWaiting, Refused}
 use Rattle.mm_host.specs.declared.fault.SessionFault.{SessionFault}
 use Rattle.mm_host.specs.declared.fault.SessionFault.TheVariants.{Host}
-use Rattle.mm_host.specs.Continuation.{IsInHand, CallsRunOver, RunsTo, served_calls_in}
+use Rattle.mm_host.specs.Continuation.{IsInHand, CallsRunOver, RunsTo, last_bytes_in, served_calls_in}
 use Rattle.mm_host.specs.SessionStanding.{SessionStanding}
 use Rattle.mm_host.specs.Sessions.{ServedCall, served_lines, IsSession}
 
@@ -92,8 +92,8 @@ module _ (all others : List (List ℕ)) (asked : List Batch) (i : Instance) (y :
 
   -- From a history: what was told is one run of the module, and a refusal is by the offer.
   pub record EndsRun (offer : List ℕ) (standing : Standing) (told : List ServedCall)
-      (hand : List ℕ → Type 0) (result : Result Unit SessionFault) : Type 0 where
-    pub runs : RunsTo all others asked i y standing told hand result
+      (hand : List ℕ → Type 0) (last : List ℕ) (result : Result Unit SessionFault) : Type 0 where
+    pub runs : RunsTo all others asked i y standing told hand last result
     pub open runs use *
     pub refuses : (why : Refusal) → result ≡ Err (Host (Refused why)) →
         IsRefusedFor i runs.after (offer_after offer told) hand why
@@ -102,13 +102,13 @@ module _ (all others : List (List ℕ)) (asked : List Batch) (i : Instance) (y :
   -- is one run; and where all that were made are among them, so the session ends. All that were
   -- made are among what waited and the lines of the input, where that tells its bytes.
   pub record RunsOnce (slots : Slots) (waiting : Option PendingRecord) (left : Option (List ℕ))
-      (standing : Standing) (told : List ServedCall) (hand : List ℕ → Type 0)
+      (standing : Standing) (told : List ServedCall) (hand : List ℕ → Type 0) (last : List ℕ)
       (requests : List (List ℕ)) (result : Result Unit SessionFault) : Type 0 where
     pub fronts : (front behind : List ServedCall) → told ≡ front ++ behind →
         AreFirstOf (served_lines front) requests →
         (after : List (List ℕ)) × CallsRunOver i.meaning (requests_of y.batches) front after
     pub ends : AreAmong told hand requests →
-        EndsRun (first_offer slots waiting) standing told hand result
+        EndsRun (first_offer slots waiting) standing told hand last result
     pub made : (input : List ℕ) → left ≡ Some input →
         AreAmong told hand (requests_with waiting (lines_of input))
 
@@ -128,7 +128,8 @@ RunsOnceFrom Basic meaning entry old new result =
     AreAskedInTurn all asked (basic_instance meaning key) y (first_offer slots may.waiting) requests
     →
     RunsOnce all others asked (basic_instance meaning key) y slots may.waiting old.left new.standing
-    (served_calls_in may.waiting s.goes) (IsInHand may.waiting s.goes) requests result
+    (served_calls_in may.waiting s.goes) (IsInHand may.waiting s.goes) (last_bytes_in s.goes)
+    requests result
 RunsOnceFrom Opt meaning entry old new result =
     (s : IsSession Opt meaning old new result)
     (key barrier : List ℕ) (y : History) (slots : Slots) (all others : List (List ℕ))
@@ -142,7 +143,8 @@ RunsOnceFrom Opt meaning entry old new result =
     → ⊥) →
     AreShown all others (opt_instance meaning key barrier) y more) →
     RunsOnce all others asked (opt_instance meaning key barrier) y slots may.waiting old.left
-    new.standing (served_calls_in may.waiting s.goes) (IsInHand may.waiting s.goes) requests result
+    new.standing (served_calls_in may.waiting s.goes) (IsInHand may.waiting s.goes)
+    (last_bytes_in s.goes) requests result
 
 -- a session is entered where it starts
 abbrev pub SessionRunsOnce : Variant → Meaning → SessionStanding → SessionStanding

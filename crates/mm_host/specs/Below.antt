@@ -1,8 +1,8 @@
 -- The words that the definitions of this crate take from the crates below.
-pub use Rattle.mm_lines.specs.Input.{joined_lines, lines_of, tail_of}
-pub use Rattle.mm_base.specs.Limits.{last_position, longest_request}
-pub use Rattle.mm_lines.specs.Lines.{IsLong, IsLineFront}
-pub use Rattle.mm_lines.specs.declared.replay_fault.ReplayFault.TheVariants.{BadLine, LineLong, ReadFault, TooMuch, WriteFault}
+pub use Rattle.mm_base.specs.Input.{joined_lines, lines_of, tail_of}
+pub use Rattle.mm_bytes.specs.Limits.{last_position, longest_request}
+pub use Rattle.mm_base.specs.Lines.{IsLong, IsLineFront}
+pub use Rattle.mm_base.specs.declared.replay_fault.ReplayFault.TheVariants.{BadLine, LineLong, ReadFault, TooMuch, WriteFault}
 pub use Rattle.mm_digest.specs.declared.variant.Variant.{Variant}
 pub use Rattle.mm_digest.specs.declared.variant.Variant.TheVariants.{Basic, Opt}
 pub use Rattle.mm_seal.specs.Snapshot.{Content}

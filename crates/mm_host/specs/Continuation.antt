@@ -10,7 +10,8 @@ use Rattle.mm_host.specs.Below.{HostStanding, Store, Refused, Resumed, Answered}
 use Rattle.mm_model.specs.declared.refusal.Refusal.TheVariants.{Full}
 use Rattle.mm_host.specs.declared.fault.SessionFault.{SessionFault}
 use Rattle.mm_host.specs.declared.fault.SessionFault.TheVariants.{Host, Lines}
-use Rattle.mm_host.specs.Sessions.{ServedCall, SessionGoesAfterResume, BytesBeginWith}
+use Rattle.mm_host.specs.Below.{IsFrontOf, Refusal, told_line}
+use Rattle.mm_host.specs.Sessions.{ServedCall, SessionGoesAfterResume, BytesBeginWith, refusal_text, told_cause}
 
 -- the position of what waits, and 0 where nothing does
 abbrev pub waiting_position : Option PendingRecord → ℕ
@@ -57,6 +58,24 @@ module _ {variant : Variant} {meaning : Meaning} {begun : Result Resumed HostFau
   IsInHand (inl stops) request = (p : PendingRecord) × (waiting ≡ Some p) × (p.request ≡ request)
   IsInHand (inr goes) request = (held : List ℕ) × BytesBeginWith goes.lines.more request held
 
+-- what a session wrote behind the replies that it told
+abbrev pub last_bytes_in : {variant : Variant} {meaning : Meaning}
+    {begun : Result Resumed HostFault} {middle new : HostStanding} {left : Option (List ℕ)}
+    {taken sent : List ℕ} {result : Result Unit SessionFault}
+    → SessionGoesAfterResume variant meaning begun middle new left taken sent result → List ℕ
+last_bytes_in {sent = sent} (inl stops) = sent
+last_bytes_in (inr goes) = goes.lines.last
+
+-- A front of a line is out: of that of the reply to the request in hand, which is a step on these
+-- requests; or of that of a refusal, which leaves them.
+abbrev pub IsToldInPart : Meaning → (List ℕ → Type 0) → List ℕ → List (List ℕ) → List (List ℕ)
+    → Type 0
+IsToldInPart meaning hand bytes requests after =
+    ((request : List ℕ) × (answer : Answer) × hand request
+    × IsBatchStep meaning requests (One request) (answer_reply answer) after
+    × IsFrontOf bytes (told_line answer.again answer.position answer.output))
+    ⊎ ((after ≡ requests) × (why : Refusal) × IsFrontOf bytes (refusal_text (told_cause why)))
+
 -- A request may be committed and not told where memory, the store, a device or the output failed.
 abbrev pub RequestMayBeUntold : {T : Type 0} → Result T SessionFault → Type 0
 RequestMayBeUntold (Ok it) = ⊥
@@ -95,10 +114,11 @@ pub record HasUntoldRequest (hand : List ℕ → Type 0) (result : Result Unit S
 
 module _ (all others : List (List ℕ)) (asked : List Batch) (i : Instance) (y : History) where
   -- From a history: what was told is one run of the module behind the history's requests. The
-  -- platform stands for a history of that run's requests, or of those and the one in hand. It isn't
-  -- spoiled where no value of others counts, nor lost where it wasn't before.
+  -- platform stands for a history of that run's requests, or of those and the one in hand. Where
+  -- the output failed, what is out behind the replies told is true too, as far as it goes. The
+  -- history isn't spoiled where no value of others counts, nor lost where it wasn't before.
   pub record RunsTo (standing : Standing) (told : List ServedCall) (hand : List ℕ → Type 0)
-      (result : Result Unit SessionFault) : Type 0 where
+      (last : List ℕ) (result : Result Unit SessionFault) : Type 0 where
     pub after : History
     pub stands : StandsFor i standing after
     pub within : IsWithin all others asked i after
@@ -106,6 +126,8 @@ module _ (all others : List (List ℕ)) (asked : List Batch) (i : Instance) (y :
     pub run : CallsRunOver i.meaning (requests_of y.batches) told requests
     pub committed : (requests_of after.batches ≡ requests)
         ⊎ HasUntoldRequest hand result requests (requests_of after.batches)
+    pub in_part : result ≡ Err (Lines WriteFault) →
+        IsToldInPart i.meaning hand last requests (requests_of after.batches)
     pub unspoiled : others ≡ [] → life_of i.variant after ≢ Spoiled
     pub powered : life_of i.variant y ≢ LostLife → life_of i.variant after ≢ LostLife
 
@@ -114,9 +136,10 @@ module _ (all others : List (List ℕ)) (asked : List Batch) (i : Instance) (y :
   -- fault, or Full where every position is used up, or tells how that history has ended.
   pub record ContinuesTo (waiting : Option PendingRecord) (standing : Standing)
       (kept : StoreStanding)
-      (told : List ServedCall) (hand : List ℕ → Type 0) (result : Result Unit SessionFault) : Type 0
+      (told : List ServedCall) (hand : List ℕ → Type 0) (last : List ℕ)
+      (result : Result Unit SessionFault) : Type 0
     where
-      pub runs : RunsTo standing told hand result
+      pub runs : RunsTo standing told hand last result
       pub open runs use *
       pub once : AreToldOnce (total_of y.batches) waiting told
       pub room : total_of runs.after.batches ≤ last_position

@@ -5,7 +5,7 @@ use Rattle.mm_host.specs.Below.{IsClear, AreNoGuards, StandsFor, IsWithin, AreSh
 use Rattle.mm_host.specs.Below.{first_offer}
 use Rattle.mm_host.specs.declared.fault.SessionFault.{SessionFault}
 use Rattle.mm_host.specs.AnySlots.{AreAmong, AreAskedInTurn, AsksNothingNew}
-use Rattle.mm_host.specs.Continuation.{ContinuesTo, IsInHand, served_calls_in}
+use Rattle.mm_host.specs.Continuation.{ContinuesTo, IsInHand, last_bytes_in, served_calls_in}
 use Rattle.mm_host.specs.SessionStanding.{SessionStanding}
 use Rattle.mm_host.specs.Sessions.{IsSession}
 
@@ -38,7 +38,8 @@ ContinuesFrom Basic meaning entry old new result =
     (first_offer slots may.fits.waiting) requests →
     AreAmong (served_calls_in may.fits.waiting s.goes) (IsInHand may.fits.waiting s.goes) requests →
     ContinuesTo all others asked (basic_instance meaning key) y may.fits.waiting new.standing
-    new.kept (served_calls_in may.fits.waiting s.goes) (IsInHand may.fits.waiting s.goes) result
+    new.kept (served_calls_in may.fits.waiting s.goes) (IsInHand may.fits.waiting s.goes)
+    (last_bytes_in s.goes) result
 ContinuesFrom Opt meaning entry old new result =
     (s : IsSession Opt meaning old new result)
     (key barrier : List ℕ) (y : History) (slots : Slots) (all others : List (List ℕ))
@@ -54,7 +55,8 @@ ContinuesFrom Opt meaning entry old new result =
     (first_offer slots may.fits.waiting) requests → ⊥)
     → AreShown all others (opt_instance meaning key barrier) y more) →
     ContinuesTo all others asked (opt_instance meaning key barrier) y may.fits.waiting new.standing
-    new.kept (served_calls_in may.fits.waiting s.goes) (IsInHand may.fits.waiting s.goes) result
+    new.kept (served_calls_in may.fits.waiting s.goes) (IsInHand may.fits.waiting s.goes)
+    (last_bytes_in s.goes) result
 
 -- a session is entered where it starts
 abbrev pub SessionContinues : Variant → Meaning → SessionStanding → SessionStanding

@@ -2,7 +2,7 @@
 -- where it is told.
 use Rattle.std.specs.Prelude.{◌≢◌, Bool, true, false, is_some, Result, Err}
 use Rattle.mm_host.specs.Below.{fault_of, Store, Refused}
-use Rattle.mm_lines.specs.declared.replay_fault.ReplayFault.TheVariants as replay
+use Rattle.mm_base.specs.declared.replay_fault.ReplayFault.TheVariants as replay
 use Rattle.mm_model.specs.declared.refusal.Refusal.TheVariants as refusal
 use Rattle.mm_play.specs.PlaysInput as plays
 use Rattle.mm_host.specs.declared.fault.SessionFault.{SessionFault}

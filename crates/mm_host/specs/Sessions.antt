@@ -7,7 +7,7 @@ use Rattle.mm_host.specs.Below.{AsksNextRequest, HostResumes, HostFault, Memory,
 use Rattle.mm_host.specs.SessionStanding.{SessionStanding, host_of}
 use Rattle.mm_host.specs.declared.fault.SessionFault.{SessionFault}
 use Rattle.mm_host.specs.declared.fault.SessionFault.TheVariants.{Host, Lines}
-use Rattle.mm_lines.specs.declared.replay_fault.ReplayFault.TheVariants.{Memory}
+use Rattle.mm_base.specs.declared.replay_fault.ReplayFault.TheVariants.{Memory}
 use Rattle.mm_model.specs.declared.refusal.Refusal.TheVariants as refusal
 use Rattle.mm_schedule.specs.declared.reply.Cause.TheVariants as cause
 

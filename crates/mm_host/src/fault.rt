@@ -4,8 +4,8 @@ ghost use Rattle.std.specs.Prelude.{◌≡◌};
 ghost use Rattle.mm_recovery.specs.declared.fault.HostFault.TheVariants.{Memory as memory};
 ghost use Rattle.mm_host.specs.declared.fault.SessionFault.TheVariants as session;
 
-use mm_base::Memory;
-use mm_lines::ReplayFault;
+use mm_base::ReplayFault;
+use mm_bytes::Memory;
 use mm_recovery::HostFault;
 use thiserror::Error;
 

@@ -1,8 +1,8 @@
 //! A session: the lines of an input, each asked and told, one after another.
 
 ghost use Rattle.std.specs.Prelude.{◌≡◌, ◌+◌, ◌≤◌, ℕ, false, List, [], Option, IfOk, IfSome};
-ghost use Rattle.mm_lines.specs.Lines.{IsLineFront};
-ghost use Rattle.mm_base.specs.Limits.{longest_request};
+ghost use Rattle.mm_base.specs.Lines.{IsLineFront};
+ghost use Rattle.mm_bytes.specs.Limits.{longest_request};
 ghost use Rattle.mm_play.specs.PlaysInput.{IsBlamed};
 ghost use Rattle.mm_recovery.specs.HostStanding.{host_standing};
 ghost use Rattle.mm_recovery.specs.LastAnswer.{IsSized};
@@ -17,9 +17,9 @@ ghost use Rattle.mm_host.specs.Sessions.{IsSession, most_lines, AsksAndTells, By
 use crate::fault::SessionFault;
 use crate::telling::tell;
 use mm_ask::Caller;
-use mm_base::LONGEST_REQUEST;
+use mm_base::{LineFault, LineReader, Read, ReplayFault, Sink, Source};
+use mm_bytes::LONGEST_REQUEST;
 use mm_digest::Variant;
-use mm_lines::{LineFault, LineReader, Read, ReplayFault, Sink, Source};
 use mm_module::Module;
 use mm_platform::Platform;
 use mm_recovery::{Resumed, ask_next, resume};

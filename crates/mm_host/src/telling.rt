@@ -1,9 +1,9 @@
 //! What a session writes.
 
 ghost use Rattle.std.specs.Prelude.{◌≡◌, ◌≢◌, ◌≤◌, None, Ok, Err, IfOk, OnErr, length};
-ghost use Rattle.mm_base.specs.Faults.{CountsFaults};
-ghost use Rattle.mm_lines.specs.Streams.{SinkSends};
-ghost use Rattle.mm_base.specs.Limits.{longest_request};
+ghost use Rattle.mm_bytes.specs.Faults.{CountsFaults};
+ghost use Rattle.mm_base.specs.Streams.{SinkSends};
+ghost use Rattle.mm_bytes.specs.Limits.{longest_request};
 ghost use Rattle.mm_play.specs.PlaysInput.{IsBlamed};
 ghost use Rattle.mm_schedule.specs.RepliesWords.{told_line};
 ghost use Rattle.mm_recovery.specs.declared.fault.HostFault.TheVariants.{Refused};
@@ -13,8 +13,8 @@ ghost use Rattle.mm_host.specs.Sessions.{TellsReply, told_cause, refusal_text};
 ghost use Rattle.mm_host.specs.SessionBlame.{is_write_fault};
 
 use crate::fault::SessionFault;
-use mm_base::WriteFault;
-use mm_lines::{ReplayFault, Sink, write_all};
+use mm_base::{ReplayFault, Sink, write_all};
+use mm_bytes::WriteFault;
 use mm_model::{Answer, Refusal};
 use mm_recovery::{HostFault, Resumed};
 use mm_schedule::{Cause, Reply, print_line, print_told};

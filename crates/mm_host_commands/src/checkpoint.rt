@@ -4,7 +4,7 @@ ghost use Rattle.mm_host_commands.specs.Checkpoint.{CheckpointsInstance, checkpo
 ghost use Rattle.mm_status.specs.CommandOutput.{TellsLines};
 ghost use Rattle.mm_host_commands.specs.Outside.{Outside, with_platform};
 
-use mm_lines::Sink;
+use mm_base::Sink;
 use mm_opt::{CheckpointRefusal, Checkpointed, checkpoint};
 use mm_platform::Platform;
 use mm_status::{Status, stopped, written};

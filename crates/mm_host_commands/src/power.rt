@@ -3,7 +3,7 @@
 ghost use Rattle.mm_host_commands.specs.Outside.{Outside, with_platform};
 ghost use Rattle.mm_host_commands.specs.Power.{LosesPower};
 
-use mm_lines::Sink;
+use mm_base::Sink;
 use mm_platform::Platform;
 use mm_status::{Status, stopped, written};
 

@@ -6,9 +6,9 @@ ghost use Rattle.mm_host_commands.specs.Outside.{outside};
 ghost use Rattle.mm_host_commands.specs.Run.{LooksAtInstance, RunsInstance, SeesInstance, ServesAndStops};
 
 use crate::session_status::of_session;
-use mm_base::CELL_LENGTH;
+use mm_base::{Sink, Source};
+use mm_bytes::CELL_LENGTH;
 use mm_host::session;
-use mm_lines::{Sink, Source};
 use mm_modules::by_id;
 use mm_platform::Platform;
 use mm_schedule::Header;

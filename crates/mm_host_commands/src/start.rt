@@ -5,8 +5,8 @@ ghost use Rattle.mm_host_commands.specs.Init.{StartsInstance, init_line};
 ghost use Rattle.mm_status.specs.CommandOutput.{TellsLines};
 ghost use Rattle.mm_host_commands.specs.Outside.{outside};
 
+use mm_base::{Sink, Source};
 use mm_host::{InitFault, init};
-use mm_lines::{Sink, Source};
 use mm_platform::Platform;
 use mm_schedule::Header;
 use mm_status::{Status, stopped, written};

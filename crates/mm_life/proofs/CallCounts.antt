@@ -1,7 +1,7 @@
 -- What the calls of a part of a life were to write: by what they told, and by the last one.
 use Rattle.std.proofs.Common.{◌≡◌, ◌≤◌, ◌∙◌, ◌+◌, ℕ, zero, suc, Bool, true, false, List, [], ◌∷◌, Option, None, Some, Result}
 use Rattle.std.proofs.Common.{Ok, Err, arith, refl, sym, ap, subst, inl, inr}
-use Rattle.mm_lines.specs.declared.replay_fault.ReplayFault.TheVariants.{WriteFault}
+use Rattle.mm_base.specs.declared.replay_fault.ReplayFault.TheVariants.{WriteFault}
 use Rattle.mm_digest.specs.declared.variant.Variant.{Variant}
 use Rattle.mm_digest.specs.declared.variant.Variant.TheVariants.{Basic, Opt}
 use Rattle.mm_platform.specs.Standing.{Standing}
@@ -29,6 +29,7 @@ use Rattle.mm_life.specs.IdleParts.{has_open_segment}
 use Rattle.mm_life.specs.OneList.{call_replies, told_replies}
 use Rattle.mm_life.specs.LifeWrites.{call_stop, fault_stop, host_stop, new_replies, refusal_stop, session_stop, turns_between}
 use Rattle.mm_life.specs.LifeWrites.{turns_unless_stopped}
+use Rattle.std.specs.Prelude.{if◌then◌else◌}
 use Rattle.mm_life.proofs.Chains.{Ends, rests as at_rest, stops}
 use Rattle.mm_life.proofs.Idling.{open_told}
 
@@ -65,19 +66,17 @@ module _ (came : Result Resumed HostFault) (sent : List ℕ) (fault : SessionFau
   stop_refused why broken e t =
       stop_by (λ came_to is. let same : came_to ≡ refusal_fault why = cc in ap host_stop same ∙ device_stop why broken e)
 
--- What the last call of a part, or none, was to write; without a stop it leaves the cell.
+-- What the last call of a part, or none, was to write.
 pub record LastWrites (variant : Variant) (at final : Standing) (stop : ℕ) : Type 0 where
   pub in_hand : ℕ
   pub few : in_hand ≤ stop
   pub writes : CellIsWrittenFor variant in_hand at final
-  pub still : stop ≡ 0 → final.cell ≡ at.cell
 
 last_none : (variant : Variant) (at final : Standing) (stop : ℕ) → final ≡ at → LastWrites variant at final stop
 last_none variant at final stop same = record {
   in_hand = 0;
   few = omega arith;
   writes = rests variant at final same;
-  still = λ z. ap (λ (x : Standing). x.cell) same;
 }
 
 module _ {variant : Variant} {meaning : Meaning} where
@@ -89,7 +88,6 @@ module _ {variant : Variant} {meaning : Meaning} where
         in_hand = c.counts.requests;
         few = omega (arith, none);
         writes = c.counts.writes;
-        still = λ z. (c.untouched e).cell;
       }
   last_refused at final offer request why stop (Some f) c e h =
       let one : c.counts.requests ≤ 1 = rw e at c.counts.new in
@@ -98,7 +96,6 @@ module _ {variant : Variant} {meaning : Meaning} where
         in_hand = c.counts.requests;
         few = omega (arith, one, stopped);
         writes = c.counts.writes;
-        still = λ z. absurd (omega (arith, stopped, z));
       }
 
   last_answered : (at final : Standing) (offer request : List ℕ) (answer : Answer) (stop : ℕ)
@@ -109,14 +106,13 @@ module _ {variant : Variant} {meaning : Meaning} where
         in_hand = c.counts.requests;
         few = omega (arith, one, stopped);
         writes = c.counts.writes;
-        still = λ z. absurd (omega (arith, stopped, z));
       }
 
-  pub ends_writes : {at final : Standing} {offer : List ℕ} {hand : List ℕ → Type 0} {calls : List LifeCall}
+  pub ends_writes : {at final : Standing} {offer : List ℕ} {hand : List ℕ → Type 0} {sent : List ℕ} {calls : List LifeCall}
       {result : Result Unit SessionFault}
-      → Ends variant meaning at final offer hand calls result → LastWrites variant at final (session_stop result)
-  ends_writes {at} {final} {result = result} (at_rest same none) = last_none variant at final (session_stop result) same
-  ends_writes {at} {final} {offer} (stops request h gives c is came t sent fault says ends) =
+      → Ends variant meaning at final offer hand sent calls result → LastWrites variant at final (session_stop result)
+  ends_writes {at} {final} {result = result} (at_rest same none unwritten) = last_none variant at final (session_stop result) same
+  ends_writes {at} {final} {offer} {sent = sent} (stops request h gives c is came t fault says ends) =
       subst (λ (r : Result Unit SessionFault). LastWrites variant at final (session_stop r)) (sym ends) (by_gives gives c t)
     where
       by_gives : (gives : Result Answer Refusal) → IsCall variant meaning at final offer request gives → TellsCall gives came
@@ -192,55 +188,43 @@ pub turned_same : (flag : Bool) → turns_between flag flag ≡ 0
 turned_same true = refl
 turned_same false = refl
 
-turned_by : (flag : Bool) (n : ℕ) → openings flag n ≡ turns_between flag (is_open_after flag n)
-turned_by true zero = refl
-turned_by true (suc n) = refl
-turned_by false zero = refl
-turned_by false (suc n) = refl
+openings_both : (flag : Bool) (told more : ℕ)
+    → openings flag (told + more) ≡ openings flag told + openings (is_open_after flag told) more
+openings_both true told more = refl
+openings_both false zero more =
+    let none : 0 + more ≡ more = omega arith in
+    ap (openings false) none ∙ omega arith
+openings_both false (suc n) more =
+    let some : suc n + more ≡ suc (n + more) = omega arith in
+    ap (openings false) some
 
-after_none : (flag : Bool) → is_open_after flag 0 ≡ flag
-after_none true = refl
-after_none false = refl
+openings_most : (flag : Bool) (few many : ℕ) → few ≤ many → openings flag few ≤ openings flag many
+openings_most true few many h = omega arith
+openings_most false zero many h = omega arith
+openings_most false (suc few) zero h = absurd (omega (arith, h))
+openings_most false (suc few) (suc many) h = omega arith
 
-openings_most : (flag : Bool) (n : ℕ) → openings flag n ≤ 1
-openings_most true n = omega arith
-openings_most false zero = omega arith
-openings_most false (suc n) = omega arith
+-- a call writes the cell where what it told for the first time opens a segment; and so what was in hand
+pub opt_counts : (old new : Standing) (told stop : ℕ) → CallsWrite Opt old new told stop → (flag : Bool) → TellsFlag old flag
+    → Counts old new (openings (is_open_after (has_open_segment old) told) stop) (openings (has_open_segment old) told)
+opt_counts old new told stop c flag t =
+    let w = joined Opt told c.last.in_hand old c.at new c.answered.leads c.answered.writes c.last.writes in
+    let then_open : Bool = is_open_after flag told in
+    subst (λ (f : Bool). Counts old new (openings (is_open_after f told) stop) (openings f told)) (sym (open_told old flag t))
+    (counts_by old new (openings then_open stop) (openings flag told) (openings then_open c.last.in_hand)
+    (openings flag (told + c.last.in_hand)) (openings_most then_open c.last.in_hand stop c.last.few)
+    (openings_both flag told c.last.in_hand) (w.opens flag t))
 
--- a part without a stop was to write the cell where it turned the flag
+-- a checkpoint without a stop was to write the cell where it turned the flag, and none where no segment was open
 pub turning : (stop : ℕ) (before after : Bool) (old new : Standing) (written : ℕ) → written ≤ 1
-    → (stop ≡ 0 → written ≡ turns_between before after)
-    → new.writes ≡ count_after_more written old.writes → Counts old new stop (turns_unless_stopped stop before after)
-turning zero before after old new written most whole writes =
+    → (stop ≡ 0 → written ≡ turns_between before after) → (before ≡ false → written ≡ 0)
+    → new.writes ≡ count_after_more written old.writes
+    → Counts old new (if before then stop else 0) (turns_unless_stopped stop before after)
+turning zero before after old new written most whole none writes =
     let is = whole refl in
-    counts_by old new 0 (turns_between before after) 0 written (omega arith) (omega (arith, is)) writes
-turning (suc stop) before after old new written most whole writes =
+    counts_by old new (if before then 0 else 0) (turns_between before after) 0 written (omega arith) (omega (arith, is)) writes
+turning (suc stop) true after old new written most whole none writes =
     counts_by old new (suc stop) 0 written written (omega (arith, most)) (omega arith) writes
-
-module _ (old new : Standing) (told stop : ℕ) (c : CallsWrite Opt old new told stop) (flag : Bool) (t : TellsFlag old flag) where
-  abbrev n : ℕ
-  n = told + c.last.in_hand
-
-  flag_then : TellsFlag c.at (is_open_after flag told)
-  flag_then = elim c.answered.leads [
-    | inl none ↦ rw (none.0, none.1, after_none flag) t
-    | inr leads ↦ leads.leaves flag t
-  ]
-
-  flag_new : stop ≡ 0 → TellsFlag new (is_open_after flag told)
-  flag_new z =
-      let f = flag_then in
-      record { cell = f.cell; is_cell = f.is_cell; tells = c.last.still z ∙ f.tells; shows = f.shows }
-
-  opt_whole : stop ≡ 0 → openings flag n ≡ turns_between (has_open_segment old) (has_open_segment new)
-  opt_whole z =
-      let few = c.last.few in
-      let none : n ≡ told = omega (arith, few, z) in
-      ap (openings flag) none ∙ turned_by flag told
-      ∙ ap (λ (x : Bool). turns_between x (is_open_after flag told)) (sym (open_told old flag t))
-      ∙ ap (λ (x : Bool). turns_between (has_open_segment old) x) (sym (open_told new (is_open_after flag told) (flag_new z)))
-
-  pub opt_counts : Counts old new stop (turns_unless_stopped stop (has_open_segment old) (has_open_segment new))
-  opt_counts =
-      let w = joined Opt told c.last.in_hand old c.at new c.answered.leads c.answered.writes c.last.writes in
-      turning stop (has_open_segment old) (has_open_segment new) old new (openings flag n) (openings_most flag n) opt_whole (w.opens flag t)
+turning (suc stop) false after old new written most whole none writes =
+    let is = none refl in
+    counts_by old new 0 0 0 written (omega arith) (omega (arith, is)) writes

@@ -1,6 +1,6 @@
 -- A session as its calls: those that it told, one after another; and at most one behind them that it didn't tell.
 use Rattle.std.proofs.Common.{◌≡◌, ◌∙◌, ℕ, List, [], ◌∷◌, ◌++◌, Option, None, Some, Result, Ok, Err, ap, refl, sym, inl, inr}
-use Rattle.mm_lines.specs.declared.replay_fault.ReplayFault.TheVariants as input
+use Rattle.mm_base.specs.declared.replay_fault.ReplayFault.TheVariants as input
 use Rattle.mm_digest.specs.declared.variant.Variant.{Variant}
 use Rattle.mm_platform.specs.Standing.{Standing}
 use Rattle.mm_module.specs.Meaning.{Meaning}
@@ -20,12 +20,12 @@ use Rattle.mm_recovery.specs.declared.resuming.Resumed.{Resumed}
 use Rattle.mm_recovery.specs.declared.resuming.Resumed.TheVariants.{Answered, Start}
 use Rattle.mm_host.specs.AnySlots.{offer_after}
 use Rattle.mm_host.specs.SessionStanding.{SessionStanding, host_of}
-use Rattle.mm_host.specs.Continuation.{IsInHand, first_served_call, served_calls_in}
+use Rattle.mm_host.specs.Continuation.{IsInHand, first_served_call, last_bytes_in, served_calls_in}
 use Rattle.mm_host.specs.Sessions.{SessionGoesAfterResume, BytesBeginWith, SessionPlace, SendsReply, ServedCall, ServesAllLines, IsSession}
-use Rattle.mm_host.specs.Sessions.{SessionStopsInLine}
+use Rattle.mm_host.specs.Sessions.{SessionStopsInLine, reply_text}
 use Rattle.mm_host.specs.declared.fault.SessionFault.{SessionFault}
 use Rattle.mm_host.specs.declared.fault.SessionFault.TheVariants.{Host, Lines}
-use Rattle.mm_host.proofs.Above.{CallsInTurn, TellsCall, last_offer, served_calls, tells_call}
+use Rattle.mm_host.proofs.Above.{CallsInTurn, TellsCall, front_of, last_offer, served_calls, store_untold, tells_call}
 use Rattle.mm_life.specs.Deeds.{LifeCall}
 use Rattle.mm_life.specs.SessionCalls.{IsInHandOf, bytes_of, first_bytes, first_calls, found_host, found_record, last_calls, line_calls}
 use Rattle.mm_life.specs.SessionCalls.{offer_after_finding, offered_calls, recorded_calls, served_calls_of, untold_calls}
@@ -37,18 +37,19 @@ call_of offer request gives = record { offer = offer; request = request; gives =
 -- How a session ends behind what it told: it rests, with no call more; or a request in hand was called, and what came of it
 -- ends the session.
 pub data Ends (variant : Variant) (meaning : Meaning) (at final : Standing) (offer : List ℕ) (hand : List ℕ → Type 0)
-    (calls : List LifeCall) (result : Result Unit SessionFault) : Type 0 where
-  rests : final ≡ at → calls ≡ [] → Ends variant meaning at final offer hand calls result
+    (last : List ℕ) (calls : List LifeCall) (result : Result Unit SessionFault) : Type 0 where
+  rests : final ≡ at → calls ≡ [] → (result ≡ Err (Lines input.WriteFault) → ⊥)
+      → Ends variant meaning at final offer hand last calls result
   stops : (request : List ℕ) → hand request → (gives : Result Answer Refusal)
       → IsCall variant meaning at final offer request gives → calls ≡ call_of offer request gives ∷ []
-      → (came : Result Resumed HostFault) → TellsCall gives came → (sent : List ℕ) (fault : SessionFault)
-      → SendsReply came sent (Err fault) → result ≡ Err fault → Ends variant meaning at final offer hand calls result
+      → (came : Result Resumed HostFault) → TellsCall gives came → (fault : SessionFault)
+      → SendsReply came last (Err fault) → result ≡ Err fault → Ends variant meaning at final offer hand last calls result
 
 pub record Chain (variant : Variant) (meaning : Meaning) (offer : List ℕ) (before final : Standing) (told : List ServedCall)
-    (hand : List ℕ → Type 0) (untold : List LifeCall) (result : Result Unit SessionFault) : Type 0 where
+    (hand : List ℕ → Type 0) (last : List ℕ) (untold : List LifeCall) (result : Result Unit SessionFault) : Type 0 where
   pub at : Standing
   pub calls : CallsInTurn variant meaning offer before told at
-  pub ends : Ends variant meaning at final (offer_after offer told) hand untold result
+  pub ends : Ends variant meaning at final (offer_after offer told) hand last untold result
 
 -- What a start came to: nothing was asked; nothing waits, and it begins with what it read; or a call was made for what waits.
 data Begun (variant : Variant) (meaning : Meaning) (before after : Standing) (waiting : Option PendingRecord) (offer : List ℕ)
@@ -87,16 +88,23 @@ module _ (variant : Variant) (meaning : Meaning) where
   begun_by (Err why) middle new came g = failed (same_standing middle new g.0) refl why g.1
 
 module _ (variant : Variant) (meaning : Meaning) (before after : Standing) where
+  fault_is : (fault told : SessionFault) (result : Result Unit SessionFault) → result ≡ Err fault → result ≡ Err told → fault ≡ told
+  fault_is fault told result e f = cc
+
   -- it stops at once
   at_once : (final : Standing) (waiting : Option PendingRecord) (offer : List ℕ) (calls : List LifeCall) (begun : Result Resumed HostFault)
       (sent : List ℕ) (fault : SessionFault) (result : Result Unit SessionFault) → final ≡ after → SendsReply begun sent (Err fault)
       → result ≡ Err fault → Begun variant meaning before after waiting offer calls begun
       → Ends variant meaning before final offer (λ (request : List ℕ). (p : PendingRecord) × (waiting ≡ Some p) × (p.request ≡ request))
-      calls result
-  at_once final waiting offer calls begun sent fault result ends says is (failed same none why e) = rests (ends ∙ same) none
-  at_once final waiting offer calls begun sent fault result ends says is (starts same none waits e) = rests (ends ∙ same) none
+      sent calls result
+  at_once final waiting offer calls begun sent fault result ends says is (failed same none why e) =
+      rests (ends ∙ same) none
+      (λ w. store_untold why begun sent fault e says (fault_is fault (Lines input.WriteFault) result is w))
+  at_once final waiting offer calls begun sent fault result ends says is (starts same none waits e) =
+      rests (ends ∙ same) none
+      (λ w. (front_of begun sent fault says (fault_is fault (Lines input.WriteFault) result is w)).0 (ap reply_text e))
   at_once final waiting offer calls begun sent fault result ends says is (repeats p some gives c called t) =
-      stops p.request (p, some, refl) gives (rw ends c) called begun t sent fault says is
+      stops p.request (p, some, refl) gives (rw ends c) called begun t fault says is
 
   -- what waited was answered, or nothing did
   record FirstCalls (waiting : Option PendingRecord) (offer : List ℕ) (first : Resumed) : Type 0 where
@@ -133,24 +141,27 @@ module _ (variant : Variant) (meaning : Meaning) (number : ℕ) (at : SessionPla
       (came : Result Resumed HostFault) (fault : SessionFault)
       (g : HostGoesAfterRecord variant meaning recorded (record at.host { kept = middle }) new at.last line came) → InHand more line
       → SendsReply came sent (Err fault)
-      → Ends variant meaning at.host.standing new.standing (snapshot_at at.last) (InHand more)
+      → Ends variant meaning at.host.standing new.standing (snapshot_at at.last) (InHand more) sent
       (recorded_calls variant meaning recorded (record at.host { kept = middle }) new at.last line came g) (Err fault)
   line_ends (Ok it) middle line came fault g hand says =
-      stops line hand g.asked g.asks refl came (tells_call g.asked middle new.kept came g.goes) sent fault says refl
-  line_ends (Err why) middle line came fault g hand says = rests (same_standing (record at.host { kept = middle }) new g.0) refl
+      stops line hand g.asked g.asks refl came (tells_call g.asked middle new.kept came g.goes) fault says refl
+  line_ends (Err why) middle line came fault g hand says =
+      rests (same_standing (record at.host { kept = middle }) new g.0) refl
+      (λ w. let is : fault ≡ Lines input.WriteFault = cc in store_untold why came sent fault g.1 says is)
 
   in_line : (fault : SessionFault) (e : SessionStopsInLine variant meaning number at new more sent fault)
-      → Ends variant meaning at.host.standing new.standing (snapshot_at at.last) (InHand more) (line_calls e.asks) (Err fault)
+      → Ends variant meaning at.host.standing new.standing (snapshot_at at.last) (InHand more) sent (line_calls e.asks) (Err fault)
   in_line fault e = line_ends e.asks.recorded e.asks.middle e.line e.came fault e.asks.goes (e.held, e.begins) e.says
 
 module _ (variant : Variant) (meaning : Meaning) (number : ℕ) (from : SessionPlace) (new : HostStanding) (left : Option (List ℕ))
     (bytes sent : List ℕ) where
   lines_end : (result : Result Unit SessionFault) (l : ServesAllLines variant meaning number from new left bytes sent result)
-      → Ends variant meaning l.at.host.standing new.standing (snapshot_at l.at.last) (InHand l.more) (last_calls result l) result
+      → Ends variant meaning l.at.host.standing new.standing (snapshot_at l.at.last) (InHand l.more) l.last
+      (last_calls result l) result
   lines_end (Err (Host fault)) l = in_line variant meaning _ l.at new l.more l.last (Host fault) l.ends
   lines_end (Err (Lines input.WriteFault)) l = in_line variant meaning _ l.at new l.more l.last (Lines input.WriteFault) l.ends
   lines_end (Err (Lines input.Memory)) l = absurd l.ends
-  lines_end _ l = rests (same_standing l.at.host new l.ends.0.still) refl
+  lines_end _ l = rests (same_standing l.at.host new l.ends.0.still) refl (λ w. absurd (cc))
 
 module _ {variant : Variant} {meaning : Meaning} {old new : SessionStanding} {result : Result Unit SessionFault}
     (s : IsSession variant meaning old new result) where
@@ -167,7 +178,7 @@ module _ {variant : Variant} {meaning : Meaning} {old new : SessionStanding} {re
 
   chain_by : (goes : SessionGoesAfterResume variant meaning s.begun s.middle (host_of new) new.left s.taken s.sent result)
       → Chain variant meaning (first_bytes s) old.standing new.standing (served_calls_in waiting goes) (IsInHand waiting goes)
-      (untold_calls s goes) result
+      (last_bytes_in goes) (untold_calls s goes) result
   chain_by (inl e) = record {
     at = old.standing;
     calls = refl;
@@ -186,5 +197,5 @@ module _ {variant : Variant} {meaning : Meaning} {old new : SessionStanding} {re
       }
 
   pub session_chain : Chain variant meaning (first_bytes s) old.standing new.standing (served_calls_of s) (IsInHandOf s)
-      (untold_calls s s.goes) result
+      (last_bytes_in s.goes) (untold_calls s s.goes) result
   session_chain = chain_by s.goes

@@ -1,5 +1,6 @@
 -- What a checkpoint of a life was to write: in Opt by the flag that it leaves.
 use Rattle.std.specs.Option.{option_map_or}
+use Rattle.std.specs.Prelude.{if◌then◌else◌}
 use Rattle.std.proofs.Common.{◌≡◌, ◌≤◌, ◌∙◌, ◌⊎◌, ℕ, Bool, true, false, List, [], ◌∷◌, ◌++◌, Option, None, Some, Result}
 use Rattle.std.proofs.Common.{map, arith, refl, sym, ap, inl, inr}
 use Rattle.mm_digest.specs.declared.variant.Variant.TheVariants.{Basic, Opt}
@@ -84,6 +85,11 @@ read_writes : (values : List (List ℕ)) (ends : End) (fates : ℕ → StepFate)
 read_writes values Done fates number = refl
 read_writes values (Fails fault effect) fates number = refl
 
+-- none is closed where none is open
+shut_writes : (fates : ℕ → StepFate) (flag lost : Bool) → flag ≡ false → (walk fates 1 (checkpoint_steps Opt flag lost)).writes ≡ 0
+shut_writes fates true lost shut = absurd (cc)
+shut_writes fates false lost shut = read_writes (fates 1).brings (fates 1).ends fates 2
+
 module _ (meaning : Meaning) (key barrier : List ℕ) (old new : Standing) (said : Result Checkpointed CheckpointRefusal)
     (k : IsCheckpointOnCourse old new said) where
   pub basic_checked : (d : Digests) → StandsAt (basic_instance meaning key) old d → Counts old new (checkpoint_stop said) 0
@@ -93,7 +99,8 @@ module _ (meaning : Meaning) (key barrier : List ℕ) (old new : Standing) (said
       counts_by old new (checkpoint_stop said) 0 0 _ (omega arith) (none ∙ omega arith) g.writes
 
   pub opt_checked : (d : Digests) → StandsAt (opt_instance meaning key barrier) old d
-      → Counts old new (checkpoint_stop said) (turns_unless_stopped (checkpoint_stop said) (has_open_segment old) (has_open_segment new))
+      → Counts old new (if has_open_segment old then checkpoint_stop said else 0)
+      (turns_unless_stopped (checkpoint_stop said) (has_open_segment old) (has_open_segment new))
   opt_checked d s =
       let i : Instance = opt_instance meaning key barrier in
       let g = k.goes Opt meaning key barrier d s in
@@ -107,4 +114,4 @@ module _ (meaning : Meaning) (key barrier : List ℕ) (old new : Standing) (said
             c.whole whole ∙ ap (λ (x : Bool). turns_between x o.state.flag) (sym (open_told old d.flag before))
             ∙ ap (λ (x : Bool). turns_between (has_open_segment old) x) (sym (open_told new o.state.flag after))
         | inr stopped ↦ absurd (omega (arith, stopped, z))
-      ]) g.writes
+      ]) (λ shut. shut_writes k.course.fates d.flag _ (sym (open_told old d.flag before) ∙ shut)) g.writes

@@ -11,7 +11,7 @@ use Rattle.mm_life.specs.DeviceDeeds.{CyclesAreDeeds, ReadsAreDeeds}
 pub reads_are_deeds : ReadsAreDeeds
 reads_are_deeds variant meaning old new fault goes = (goes.cell, goes.items)
 
-nothing_beside : (items : Option (List Item)) → items ≡ items_beside [] items
+pub nothing_beside : (items : Option (List Item)) → items ≡ items_beside [] items
 nothing_beside None = refl
 nothing_beside (Some xs) = ap (λ (x : List Item). Some x) (sym (append-nil xs))
 

@@ -17,13 +17,15 @@ use Rattle.mm_recovery.specs.SlotFit.{FitsBy, FitsHistory}
 use Rattle.mm_recovery.specs.declared.fault.HostFault.TheVariants.{Store}
 use Rattle.mm_recovery.proofs.Above.{fits_on}
 use Rattle.mm_host.specs.Continuation.{ContinuesTo, HasUntoldRequest, IsInHand, IsNotBeyond, CallsRunOver, served_calls_in}
+use Rattle.mm_host.specs.Continuation.{last_bytes_in}
 use Rattle.mm_host.specs.Sessions.{ServedCall}
 use Rattle.mm_host.specs.declared.fault.SessionFault.{SessionFault}
 use Rattle.mm_host.specs.declared.fault.SessionFault.TheVariants.{Host}
 use Rattle.mm_host.proofs.Above.{Shows, calls_reach}
 use Rattle.mm_life.specs.Deeds.{LifeCall, Calls, Checkpoints, Deed, DeedLeads, Extends, LosesPower}
 use Rattle.mm_life.specs.HonestLife.{AreNoChance, BeginsOver, IsGoneOnWith, IsNextOrLast, IsOverOneStore, LeavesNoChance}
-use Rattle.mm_life.specs.HonestLife.{GoesOnFrom, PartGoesOn, reached_position, store_at_end, store_behind}
+use Rattle.mm_life.specs.HonestLife.{GoesOnFrom, KeepsSegments, NoneIsRefusedAs, PartGoesOn, reached_position, store_at_end, store_behind}
+use Rattle.mm_model.specs.declared.refusal.Refusal.TheVariants as refusal
 use Rattle.mm_store.specs.StoreStanding.{StoreStanding}
 use Rattle.mm_life.specs.OneList.{LifeFollows, PartSteps, SessionSteps}
 use Rattle.mm_life.specs.SessionCalls.{first_bytes, IsInHandOf, session_calls, served_calls_of}
@@ -99,7 +101,7 @@ store_failed _ = inr (λ e. cc)
 pub record GoneOn (all others : List (List ℕ)) (asked : List Batch) (i : Instance) (requests : List (List ℕ)) (kept : StoreStanding)
     (start : Standing) (stages : List LifeStage) (f : IsLife i.variant i.meaning start stages) : Type 0 where
   pub after : List (List ℕ)
-  pub goes : GoesOnFrom others i start stages f requests after
+  pub goes : GoesOnFrom all others asked i start stages f requests after
   pub follows : LifeFollows i.variant i.meaning start stages f requests after
   pub history : History
   pub holds : requests_of history.batches ≡ after
@@ -112,11 +114,15 @@ pub record GoneOn (all others : List (List ℕ)) (asked : List Batch) (i : Insta
 
 pub gone_from_none : {all others : List (List ℕ)} {asked : List Batch} {i : Instance} {kept : StoreStanding} {start : Standing}
     {stages : List LifeStage} {f : IsLife i.variant i.meaning start stages} → GoneOn all others asked i [] kept start stages f
+    → (KeepsSegments i.variant start stages → NoneIsRefusedAs refusal.Lost stages)
+    → (others ≡ [] → NoneIsRefusedAs refusal.Stale stages)
     → IsGoneOnWith all others asked i kept start stages f
-gone_from_none g = record {
+gone_from_none g unlost unspoiled = record {
   after = g.after;
   goes = g.goes;
   follows = g.follows;
+  unlost = unlost;
+  unspoiled = unspoiled;
   history = g.history;
   holds = g.holds;
   stands = g.stands;
@@ -135,7 +141,7 @@ module _ {all others : List (List ℕ)} {asked : List Batch} {i : Instance} {IsS
     after : History
     stands : StandsFor i new after
     within : IsWithin all others asked i after
-    goes : PartGoesOn others i old part new f (requests_of y.batches) (requests_of after.batches)
+    goes : PartGoesOn all others asked i old part new f (requests_of y.batches) (requests_of after.batches)
     steps : PartSteps i.variant i.meaning old part new f (requests_of y.batches) (requests_of after.batches)
     honest : (store_behind kept part).is_honest ≡ true
     left : Slots
@@ -148,7 +154,7 @@ module _ {all others : List (List ℕ)} {asked : List Batch} {i : Instance} {IsS
     abbrev On : Type 0
     On =
         ContinuesTo all others asked i y fits.waiting new p.new.kept (served_calls_in fits.waiting s.goes)
-        (IsInHand fits.waiting s.goes) p.result
+        (IsInHand fits.waiting s.goes) (last_bytes_in s.goes) p.result
 
     waits : IsNextOrLast (requests_of y.batches) fits.waiting
     waits = next_or_last i slots y fits.waiting fits.fits
@@ -168,9 +174,11 @@ module _ {all others : List (List ℕ)} {asked : List Batch} {i : Instance} {IsS
       | inr whole ↦ c.whole whole
     ]
 
-    program_gone : StandsFor i old y → (c : On) → SessionSteps i.meaning (requests_of y.batches) (served_calls_of s) (IsInHandOf s) p.result
-        (requests_of c.runs.after.batches) → PartGone y kept old (Holds p) new s
-    program_gone stands c steps = record {
+    program_gone : StandsFor i old y → IsWithin all others asked i y → (c : On)
+        → SessionSteps i.meaning (requests_of y.batches) (served_calls_of s) (IsInHandOf s) (last_bytes_in s.goes) p.result
+        (requests_of c.runs.after.batches)
+        → PartGone y kept old (Holds p) new s
+    program_gone stands within c steps = record {
       after = c.runs.after;
       stands = c.runs.stands;
       within = c.runs.within;
@@ -179,11 +187,16 @@ module _ {all others : List (List ℕ)} {asked : List Batch} {i : Instance} {IsS
         record { shown = slots; told = told; is_waiting = fits.is_waiting },
         record {
           waits = waits;
-          steps = record { between = c.runs.requests; run = c.runs.run; committed = c.runs.committed };
+          steps = record {
+            between = c.runs.requests;
+            run = c.runs.run;
+            committed = c.runs.committed;
+            in_part = c.runs.in_part;
+          };
           once = c.once;
           room = c.room;
-          entered = record { history = y; stands = stands; holds = refl };
-          left = record { history = c.runs.after; stands = c.runs.stands; holds = refl };
+          entered = record { history = y; stands = stands; within = within; holds = refl };
+          left = record { history = c.runs.after; stands = c.runs.stands; within = c.runs.within; holds = refl };
           refuses = c.refuses;
           powered = c.runs.powered;
           unspoiled = c.runs.unspoiled;
@@ -242,7 +255,7 @@ module _ {all others : List (List ℕ)} {asked : List Batch} {i : Instance} {IsS
       ] in
       let here : p.old.kept.slots ≡ Some slots = begins.1 ∙ told in
       let on = goes_on laws s y slots here (begins.0 ∙ honest) stands within fits seen_so listed in
-      program_gone y kept slots old p new s here fits chance stands on.0 on.1
+      program_gone y kept slots old p new s here fits chance stands within on.0 on.1
   part_goes y kept slots old (Does (Calls c)) new f honest told stands within fits begins seen chance listed = absurd begins
   part_goes y kept slots old (Does (Extends values)) new f honest told stands within fits begins seen chance listed =
       let on = deed_stays y old (Extends values) new tt seen f stands within in

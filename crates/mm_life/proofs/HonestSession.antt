@@ -1,7 +1,7 @@
 -- A session over an honest store, by the calls that it made: it goes on from a history that the slots fit.
 use Rattle.std.proofs.Common.{◌≡◌, ◌∙◌, ◌⊎◌, ◌+◌, ℕ, true, List, [], ◌∷◌, ◌++◌, map, Option, None, Some, Result, Ok, Err, refl, sym, subst, inl}
 use Rattle.std.proofs.Common.{inr}
-use Rattle.mm_lines.specs.declared.replay_fault.ReplayFault.TheVariants.{WriteFault}
+use Rattle.mm_base.specs.declared.replay_fault.ReplayFault.TheVariants.{WriteFault}
 use Rattle.mm_digest.specs.declared.variant.Variant.{Variant}
 use Rattle.mm_platform.specs.Standing.{Standing}
 use Rattle.mm_module.specs.Batch.{Batch}
@@ -37,7 +37,10 @@ use Rattle.std.proofs.Common.{Bool, ap, length}
 use Rattle.mm_model.specs.History.{requests_of, total_of}
 use Rattle.mm_store.specs.declared.fault.StoreFault.TheVariants as fault
 use Rattle.mm_host.specs.Continuation.{AreToldOnce, RefusesAs}
-use Rattle.mm_host.proofs.Above.{by_told, fits_room, unspoiled}
+use Rattle.mm_host.proofs.Above.{by_told, fits_room, unspoiled, store_untold}
+use Rattle.mm_base.specs.declared.replay_fault.ReplayFault.TheVariants.{WriteFault}
+use Rattle.mm_host.specs.declared.fault.SessionFault.TheVariants.{Lines}
+use Rattle.mm_host.specs.Continuation.{last_bytes_in}
 use Rattle.mm_life.specs.OneList.{SessionSteps}
 use Rattle.mm_life.specs.Deeds.{LifeCall}
 use Rattle.mm_life.specs.SessionCalls.{bytes_of, first_bytes, first_calls, found_host, found_record, IsInHandOf, last_calls, offered_calls}
@@ -51,19 +54,19 @@ abbrev pub requests_in : List LifeCall → List (List ℕ)
 requests_in calls = map (λ c. c.request) calls
 
 module _ {all others : List (List ℕ)} {asked : List Batch} {i : Instance} {final : Standing} (laws : Laws all others asked i final) where
-  asked_last : (z : History) (at : Standing) (offer : List ℕ) (hand : List ℕ → Type 0) (untold : List LifeCall)
-      (result : Result Unit SessionFault) → Ends i.variant i.meaning at final offer hand untold result → AreListed all asked i untold
+  asked_last : {sent : List ℕ} (z : History) (at : Standing) (offer : List ℕ) (hand : List ℕ → Type 0) (untold : List LifeCall)
+      (result : Result Unit SessionFault) → Ends i.variant i.meaning at final offer hand sent untold result → AreListed all asked i untold
       → AreAskedInTurn all asked i z offer (requests_in untold)
-  asked_last z at offer hand untold result (rests same none) listed = rw none tt
-  asked_last z at offer hand untold result (stops request h gives c is came t sent fault says ends) listed =
+  asked_last z at offer hand untold result (rests same none unwritten) listed = rw none tt
+  asked_last z at offer hand untold result (stops request h gives c is came t fault says ends) listed =
       let made : LifeCall = call_of offer request gives in
       let l : AreListed all asked i (made ∷ []) = rw is at listed in
       rw is (l.batches.0, listed_first all asked i made [] l, tt)
 
-  asked_in_turn : (told : List ServedCall) (y z : History) (old at : Standing) (offer : List ℕ) (hand : List ℕ → Type 0)
+  asked_in_turn : {sent : List ℕ} (told : List ServedCall) (y z : History) (old at : Standing) (offer : List ℕ) (hand : List ℕ → Type 0)
       (untold : List LifeCall)
       (result : Result Unit SessionFault) → CallsInTurn i.variant i.meaning offer old told at
-      → Ends i.variant i.meaning at final (offer_after offer told) hand untold result → StandsIn all others asked i y z old offer
+      → Ends i.variant i.meaning at final (offer_after offer told) hand sent untold result → StandsIn all others asked i y z old offer
       → Shows i.variant all others i y old final → AreListed all asked i (told_calls offer told ++ untold)
       → AreAskedInTurn all asked i z offer (served_lines told ++ requests_in untold)
   asked_in_turn [] y z old at offer hand untold result h ends s shows listed = asked_last z at offer hand untold result ends listed
@@ -92,26 +95,26 @@ module _ {all others : List (List ℕ)} {asked : List Batch} {i : Instance} {fin
   abbrev AreAskedStill : History → Standing → List ℕ → List (List ℕ) → Type 0
   AreAskedStill y before offer requests = AreAskedInTurn all asked i y offer requests × May laws y before offer requests
 
-  still_last : (y : History) (before : Standing) (offer : List ℕ) (hand : List ℕ → Type 0) (untold : List LifeCall)
-      (result : Result Unit SessionFault) → Ends i.variant i.meaning before final offer hand untold result
+  still_last : {sent : List ℕ} (y : History) (before : Standing) (offer : List ℕ) (hand : List ℕ → Type 0) (untold : List LifeCall)
+      (result : Result Unit SessionFault) → Ends i.variant i.meaning before final offer hand sent untold result
       → StandsIn all others asked i y y before offer → AreListed all asked i untold → AreStill y before untold
       → AreAskedStill y before offer (requests_in untold)
-  still_last y before offer hand untold result (rests same none) s listed still = rw none (tt, inr tt)
-  still_last y before offer hand untold result (stops request h gives c is came t sent fault says ends) s listed still =
+  still_last y before offer hand untold result (rests same none unwritten) s listed still = rw none (tt, inr tt)
+  still_last y before offer hand untold result (stops request h gives c is came t fault says ends) s listed still =
       let made : LifeCall = call_of offer request gives in
       let l : AreListed all asked i (made ∷ []) = rw is at listed in
       let first = listed_first all asked i made [] l in
       let m = makes_call laws before final offer request y (batch_result_of gives) c.goes s.stands s.within s.genuine l.batches.0 first in
       rw is ((l.batches.0, first, tt), inr (still.1 made is final m, refl))
 
-  asked_still : (y : History) (before : Standing) (offer : List ℕ) (told : List ServedCall) (hand : List ℕ → Type 0)
+  asked_still : {sent : List ℕ} (y : History) (before : Standing) (offer : List ℕ) (told : List ServedCall) (hand : List ℕ → Type 0)
       (untold : List LifeCall)
-      (result : Result Unit SessionFault) → Chain i.variant i.meaning offer before final told hand untold result
+      (result : Result Unit SessionFault) → Chain i.variant i.meaning offer before final told hand sent untold result
       → StandsIn all others asked i y y before offer → AreListed all asked i (told_calls offer told ++ untold)
       → AreStill y before (told_calls offer told ++ untold) → AreAskedStill y before offer (served_lines told ++ requests_in untold)
-  asked_still y before offer [] hand untold result k s listed still =
+  asked_still {sent} y before offer [] hand untold result k s listed still =
       still_last y before offer hand untold result
-      (subst (λ (x : Standing). Ends i.variant i.meaning x final offer hand untold result) k.calls k.ends) s listed still
+      (subst (λ (x : Standing). Ends i.variant i.meaning x final offer hand sent untold result) k.calls k.ends) s listed still
   asked_still y before offer (c ∷ []) hand untold result k s listed still =
       let made : LifeCall = call_of offer c.line (Ok c.answer) in
       let none : untold ≡ [] = elim still.0 [ inl e ↦ absurd (cc) | inr one ↦ cc (one.1) ] in
@@ -252,9 +255,10 @@ module _ {all others : List (List ℕ)} {asked : List Batch} {i : Instance} {fin
 
   abbrev OnBy : Went → Type 0
   OnBy goes =
-      (c : ContinuesTo all others asked i y fits.waiting final new (served_calls_in fits.waiting goes) (IsInHand fits.waiting goes) result)
+      (c : ContinuesTo all others asked i y fits.waiting final new (served_calls_in fits.waiting goes) (IsInHand fits.waiting goes)
+      (last_bytes_in goes) result)
       × SessionSteps i.meaning (requests_of y.batches) (served_calls_in (found_record s.resumes.waiting) goes)
-      (IsInHand (found_record s.resumes.waiting) goes) result (requests_of c.runs.after.batches)
+      (IsInHand (found_record s.resumes.waiting) goes) (last_bytes_in goes) result (requests_of c.runs.after.batches)
 
   here : StandsIn all others asked i y y before (first_offer slots fits.waiting)
   here = record {
@@ -270,9 +274,9 @@ module _ {all others : List (List ℕ)} {asked : List Batch} {i : Instance} {fin
   on_offers listed is found =
       let untold : List LifeCall = untold_calls s s.goes in
       let k = subst (λ (bytes : List ℕ). Chain i.variant i.meaning bytes before final (served_calls_in fits.waiting s.goes)
-      (IsInHandOf s) untold result)
+      (IsInHandOf s) (last_bytes_in s.goes) untold result)
       is (subst (λ (w : Option PendingRecord). Chain i.variant i.meaning (first_bytes s) before final (served_calls_in w s.goes)
-      (IsInHandOf s) untold
+      (IsInHandOf s) (last_bytes_in s.goes) untold
       result) found (session_chain s)) in
       let l = subst (λ (bytes : List ℕ). AreListed all asked i (told_calls bytes (served_calls_in fits.waiting s.goes) ++ untold)) is
       (subst (λ (w : Option PendingRecord). AreListed all asked i (told_calls (first_bytes s) (served_calls_in w s.goes) ++ untold)) found
@@ -296,9 +300,14 @@ module _ {all others : List (List ℕ)} {asked : List Batch} {i : Instance} {fin
       (all_made s fits.waiting s.goes found) (λ p. p) in (
         c,
         subst (λ (w : Option PendingRecord). SessionSteps i.meaning (requests_of y.batches) (served_calls_in w s.goes)
-            (IsInHand w s.goes) result
+            (IsInHand w s.goes) (last_bytes_in s.goes) result
             (requests_of c.runs.after.batches)) (sym found)
-            (record { between = c.runs.requests; run = c.runs.run; committed = c.runs.committed }),
+            (record {
+              between = c.runs.requests;
+              run = c.runs.run;
+              committed = c.runs.committed;
+              in_part = c.runs.in_part;
+            }),
       )
 
   -- where nothing was, all is as before
@@ -322,6 +331,7 @@ module _ {all others : List (List ℕ)} {asked : List Batch} {i : Instance} {fin
         requests = requests_of y.batches;
         run = refl;
         committed = inl refl;
+        in_part = λ w. absurd (nothing_out w);
         unspoiled = unspoiled i.variant others y within.sound within.outside;
         powered = λ p. p;
       };
@@ -338,9 +348,14 @@ module _ {all others : List (List ℕ)} {asked : List Batch} {i : Instance} {fin
           let same : store_fault_as r.why ≡ w = host_same s.begun (store_fault_as r.why) w r.is came in
           subst (λ (f : HostFault). RefusesAs {T = Unit} (Err (Host f)) i.variant y) same (stored_refuses r.why)) (λ n. tt));
     },
-    record { between = requests_of y.batches; run = refl; committed = inl refl },
+    record { between = requests_of y.batches; run = refl; committed = inl refl; in_part = λ w. absurd (nothing_out w) },
   )
     where
+      nothing_out : result ≡ Err (Lines WriteFault) → ⊥
+      nothing_out w =
+          let is : ended.1.fault ≡ Lines WriteFault = cc (ended.1.stops) in
+          store_untold r.why s.begun s.sent ended.1.fault r.is ended.1.says is
+
       host_same : (came : Result Resumed HostFault) (a b : HostFault) → came ≡ Err a → came ≡ Err b → a ≡ b
       host_same came a b e f = cc
 

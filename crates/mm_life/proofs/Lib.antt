@@ -12,6 +12,7 @@ mod OptLife
 mod DoingLaws
 mod HonestSession
 mod HonestLife
+mod Refusing
 mod HonestLaws
 mod HonestCaller
 mod Unlost
@@ -21,4 +22,6 @@ mod CallCounts
 mod ClosingCounts
 mod Longer
 mod Writing
+mod OneRequest
+mod KilledPrograms
 pub mod Above

@@ -2,7 +2,7 @@
 use Rattle.std.specs.Prelude.{IsSome}
 use Rattle.std.proofs.Common.{◌≡◌, ◌≤◌, ◌∙◌, ◌+◌, ℕ, Bool, true, false, List, [], ◌∷◌, ◌++◌, Option, None, Some, Result}
 use Rattle.std.proofs.Common.{Ok, Err, length, length-append, arith, refl, ap, inl, inr}
-use Rattle.mm_lines.specs.declared.replay_fault.ReplayFault.{ReplayFault}
+use Rattle.mm_base.specs.declared.replay_fault.ReplayFault.{ReplayFault}
 use Rattle.mm_digest.specs.declared.variant.Variant.{Variant}
 use Rattle.mm_platform.specs.Standing.{Standing}
 use Rattle.mm_platform.specs.declared.fault.StepFault.{StepFault}
@@ -79,8 +79,9 @@ module _ (meaning : Meaning) where
       let rest = run_longer told run.0 after run.2 in
       omega (arith, first, rest)
 
-  session_longer : (told : List ServedCall) (hand : List ℕ → Type 0) (result : Result Unit SessionFault) (before after : List (List ℕ))
-      → SessionSteps meaning before told hand result after → IsLonger before after (new_replies (told_replies told)) (session_stop result)
+  session_longer : {sent : List ℕ} (told : List ServedCall) (hand : List ℕ → Type 0) (result : Result Unit SessionFault)
+      (before after : List (List ℕ)) → SessionSteps meaning before told hand sent result after
+      → IsLonger before after (new_replies (told_replies told)) (session_stop result)
   session_longer told hand result before after s =
       let run = run_longer told before s.between s.run in
       let more : IsLonger s.between after 0 (session_stop result) = elim s.committed [

@@ -1,7 +1,7 @@
 -- One call of a life, in either variant: where it leads from a history that the platform stands for.
 use Rattle.std.specs.List.{AllByRecursion, Contains}
 use Rattle.std.proofs.Common.{◌≡◌, ◌≤◌, ◌∙◌, ◌⊎◌, ℕ, List, [], ◌∷◌, ◌++◌, Option, None, Some, Result, Ok, Err, refl, ap, subst, inl, inr}
-use Rattle.mm_base.specs.Limits.{last_position}
+use Rattle.mm_bytes.specs.Limits.{last_position}
 use Rattle.mm_seal.specs.Snapshot.{Content}
 use Rattle.mm_platform.specs.Standing.{Standing}
 use Rattle.mm_platform.specs.declared.fault.StepFault.{StepFault}

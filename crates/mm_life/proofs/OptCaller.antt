@@ -2,7 +2,7 @@
 use Rattle.std.specs.Prelude.{Bool, Ok, Err, true, false, Some, map}
 use Rattle.std.specs.Option.{option_map}
 use Rattle.std.proofs.Common.{◌∙◌, ◌≡◌, ◌++◌, ap, ℕ, List, Option, Result, refl, take, drop, inl, inr}
-use Rattle.mm_base.specs.declared.fault.Failed.{Failed}
+use Rattle.mm_bytes.specs.declared.fault.Failed.{Failed}
 use Rattle.mm_digest.specs.declared.variant.Variant.{Variant}
 use Rattle.mm_digest.specs.declared.variant.Variant.TheVariants.{Opt}
 use Rattle.mm_platform.specs.Standing.{Item, Standing, foreign_item, item_values}
@@ -87,7 +87,7 @@ module _ (all others : List (List ℕ)) (asked : List Batch) (meaning : Meaning)
   last_unlost start closed empty first p end kept (Ok made) y stands f gone =
       let s = part_stands Opt meaning key barrier start first.part first.after f.0 (digests_of I y) (stands_at I start y stands) in
       let g = gone.goes.2.2.2.1 in
-      unlost meaning key barrier others (session_on empty p.old) (session_on end p.new) p.result f.1.1.1.0 g.0 _ _ g.2
+      unlost meaning key barrier all others asked (session_on empty p.old) (session_on end p.new) p.result f.1.1.1.0 g.0 _ _ g.2
       (still_open meaning key barrier closed empty f.1.1.0.0
       ∙ shut_behind meaning key barrier first.after closed made f.1.0 s.digests s.stands)
 

@@ -28,7 +28,7 @@ use Rattle.mm_host.specs.AnySlots.{offer_after}
 use Rattle.mm_host.specs.Continuation.{CallsRunOver}
 use Rattle.mm_host.specs.Sessions.{ServedCall}
 use Rattle.mm_host.specs.declared.fault.SessionFault.{SessionFault}
-use Rattle.mm_host.proofs.Above.{CallsInTurn, Laws, Makes, Reaches, Shows, calls_reach, line_committed, only_by, pending_for, reach_same}
+use Rattle.mm_host.proofs.Above.{CallsInTurn, Laws, Makes, Reaches, Shows, calls_reach, line_committed, only_by, pending_for, reach_same, call_steps, same_requests, told_in_part}
 use Rattle.mm_life.specs.Deeds.{LifeCall}
 use Rattle.mm_life.specs.OneList.{IsLastJudged, SessionSteps}
 use Rattle.mm_life.specs.Premises.{issued_snapshot_in, snapshots_of}
@@ -66,10 +66,11 @@ listed_first all asked i c calls a = each_left (Contains all) (right_messages i 
 
 -- the call behind those that were told offers the last answer's snapshot
 pub offered_by : {variant : Variant} {meaning : Meaning} {at final : Standing} {offer : List ℕ} {hand : List ℕ → Type 0}
-    {untold : List LifeCall} {result : Result Unit SessionFault} → Ends variant meaning at final offer hand untold result
+    {sent : List ℕ} {untold : List LifeCall} {result : Result Unit SessionFault}
+    → Ends variant meaning at final offer hand sent untold result
     → IsFirstOffered offer untold
-offered_by (rests same none) = rw none tt
-offered_by (stops request hand gives c is came t sent fault says ends) = rw is refl
+offered_by (rests same none unwritten) = rw none tt
+offered_by (stops request hand gives c is came t fault says ends) = rw is refl
 
 -- an answered call isn't judged, so the last one is that which wasn't told
 judged_behind : (i : Instance) (y : History) (c : LifeCall) (calls : List LifeCall) → IsLastJudged i y calls
@@ -102,14 +103,15 @@ module _ (i : Instance) (leads : CallsLead i) where
       let first = leads old h.0 offer c.line (Ok (batch_answer_of c.answer)) h.1.goes d s in
       calls_lead told c.answer.snapshot h.0 at h.2 first.0 first.1
 
-  ends_lead : {at final : Standing} {offer : List ℕ} {hand : List ℕ → Type 0} {untold : List LifeCall} {result : Result Unit SessionFault}
-      → Ends i.variant i.meaning at final offer hand untold result → Leads i at final
-  ends_lead (rests same none) = λ d s. (d, rw same s)
-  ends_lead {at} {final} {offer} (stops request hand gives c is came t sent fault says ends) =
+  ends_lead : {at final : Standing} {offer : List ℕ} {hand : List ℕ → Type 0} {sent : List ℕ} {untold : List LifeCall}
+      {result : Result Unit SessionFault} → Ends i.variant i.meaning at final offer hand sent untold result → Leads i at final
+  ends_lead (rests same none unwritten) = λ d s. (d, rw same s)
+  ends_lead {at} {final} {offer} (stops request hand gives c is came t fault says ends) =
       leads at final offer request (batch_result_of gives) c.goes
 
-  pub chain_leads : {before final : Standing} {offer : List ℕ} {told : List ServedCall} {hand : List ℕ → Type 0} {untold : List LifeCall}
-      {result : Result Unit SessionFault} → Chain i.variant i.meaning offer before final told hand untold result → Leads i before final
+  pub chain_leads : {before final : Standing} {offer : List ℕ} {told : List ServedCall} {hand : List ℕ → Type 0} {sent : List ℕ}
+      {untold : List LifeCall} {result : Result Unit SessionFault}
+      → Chain i.variant i.meaning offer before final told hand sent untold result → Leads i before final
   chain_leads {before} {final} {offer} {told} k = λ d s.
       let first = calls_lead told offer before k.at k.calls d s in
       ends_lead k.ends first.0 first.1
@@ -181,16 +183,16 @@ module _ {all others : List (List ℕ)} {asked : List Batch} {i : Instance} {fin
     pub steps : Steps (requests_of after.batches)
     pub judged : IsLastJudged i after calls
 
-  pub ends_reach : {at : Standing} {offer : List ℕ} {hand : List ℕ → Type 0} {untold : List LifeCall} {result : Result Unit SessionFault}
-      → Ends i.variant i.meaning at final offer hand untold result → Reaches i.variant i at final
-  ends_reach {at} (rests same none) = reach_same i.variant i at final same
-  ends_reach {at} {offer} (stops request hand gives c is came t sent fault says ends) =
+  pub ends_reach : {at : Standing} {offer : List ℕ} {hand : List ℕ → Type 0} {sent : List ℕ} {untold : List LifeCall}
+      {result : Result Unit SessionFault} → Ends i.variant i.meaning at final offer hand sent untold result → Reaches i.variant i at final
+  ends_reach {at} (rests same none unwritten) = reach_same i.variant i at final same
+  ends_reach {at} {offer} (stops request hand gives c is came t fault says ends) =
       laws.reach at final offer request (batch_result_of gives) c.goes
 
-  module _ (y : History) (offer : List ℕ) (at : Standing) (told : List ServedCall) (hand : List ℕ → Type 0) (untold : List LifeCall)
-      (r : Turned y at offer told untold) where
+  module _ (y : History) (offer : List ℕ) (at : Standing) (told : List ServedCall) (hand : List ℕ → Type 0) (sent : List ℕ)
+      (untold : List LifeCall) (r : Turned y at offer told untold) where
     abbrev Steps : Result Unit SessionFault → List (List ℕ) → Type 0
-    Steps result after = SessionSteps i.meaning (requests_of y.batches) told hand result after
+    Steps result after = SessionSteps i.meaning (requests_of y.batches) told hand sent result after
 
     abbrev Whole : List LifeCall → Type 0
     Whole calls = AllByRecursion (IsGenuine i r.after) (snapshots_of calls)
@@ -203,18 +205,23 @@ module _ {all others : List (List ℕ)} {asked : List Batch} {i : Instance} {fin
         (each_append (IsGenuine i z) (snapshots_of (told_calls offer told)) (snapshots_of untold)
         (all_genuine i r.after z names (snapshots_of (told_calls offer told)) r.issued) more)
 
-    ended : (result : Result Unit SessionFault) → Ends i.variant i.meaning at final (offer_after offer told) hand untold result
+    ended : (result : Result Unit SessionFault) → Ends i.variant i.meaning at final (offer_after offer told) hand sent untold result
         → Lived y final (told_calls offer told ++ untold) (Steps result)
-    ended result (rests same none) = record {
+    ended result (rests same none unwritten) = record {
       after = r.after;
       stands = rw same r.stands;
       within = r.within;
       names = r.names;
       issued = both_issued r.after (λ content n. n) (rw none tt);
-      steps = record { between = requests_of r.after.batches; run = r.run; committed = inl refl };
+      steps = record {
+        between = requests_of r.after.batches;
+        run = r.run;
+        committed = inl refl;
+        in_part = λ w. absurd (unwritten w);
+      };
       judged = judged_told i r.after offer told untold (rw none tt);
     }
-    ended result (stops request h gives c is came t sent fault says ends) =
+    ended result (stops request h gives c is came t fault says ends) =
         let made : LifeCall = call_of (offer_after offer told) request gives in
         let first : IsGenuine i r.after (offer_after offer told) = rw is at r.first in
         let listed : AreListed all asked i (made ∷ []) = rw is at r.listed in
@@ -238,22 +245,26 @@ module _ {all others : List (List ℕ)} {asked : List Batch} {i : Instance} {fin
             run = r.run;
             committed = rw ends (line_committed r.after m.after request came sent fault hand h says (only_by gives came t m.only)
                 (grows i r.after (pending_for request) (offer_after offer told) m.after (batch_result_of gives) m.comes));
+            in_part = λ w.
+                told_in_part i.meaning hand (requests_of r.after.batches) (requests_of m.after.batches) came sent fault says
+                (λ answer e. (request, h, call_steps laws r.after m.after (offer_after offer told) request gives came answer t e m.comes))
+                (same_requests r.after m.after came (only_by gives came t m.only)) (cc);
           };
           judged = judged_told i m.after offer told untold
               (rw is (met_judged r.after final (offer_after offer told) request gives m));
         }
 
   -- a whole session
-  pub chain_lives : (y : History) (before : Standing) (offer : List ℕ) (told : List ServedCall) (hand : List ℕ → Type 0)
+  pub chain_lives : {sent : List ℕ} (y : History) (before : Standing) (offer : List ℕ) (told : List ServedCall) (hand : List ℕ → Type 0)
       (untold : List LifeCall) (result : Result Unit SessionFault)
-      → Chain i.variant i.meaning offer before final told hand untold result → StandsFor i before y → IsWithin all others asked i y
+      → Chain i.variant i.meaning offer before final told hand sent untold result → StandsFor i before y → IsWithin all others asked i y
       → IsFirstGenuine i y (told_calls offer told ++ untold) → AreListed all asked i (told_calls offer told ++ untold)
       → CallsLead i → (Reaches i.variant i before final → Leads i before final → Shows i.variant all others i y before final)
       → Lived y final (told_calls offer told ++ untold)
-      (λ after. SessionSteps i.meaning (requests_of y.batches) told hand result after)
-  chain_lives y before offer told hand untold result k stands within first listed leads shows =
+      (λ after. SessionSteps i.meaning (requests_of y.batches) told hand sent result after)
+  chain_lives {sent} y before offer told hand untold result k stands within first listed leads shows =
       let reaches = ends_reach k.ends in
-      ended y offer k.at told hand untold
+      ended y offer k.at told hand sent untold
       (turns told y before k.at offer untold k.calls reaches (offered_by k.ends) stands within first listed
       (shows (calls_reach laws offer before k.at told k.calls reaches) (chain_leads i leads k))) result k.ends
 
@@ -263,16 +274,16 @@ module _ {all others : List (List ℕ)} {asked : List Batch} {i : Instance} {fin
       (c : LifeCall) → calls ≡ c ∷ [] → (new : Standing)
       → Makes all others asked i y before new c.offer (pending_for c.request) (batch_result_of c.gives) → IsIdle i y c.offer (One c.request)
 
-  pub chain_idles : (y : History) (before : Standing) (offer : List ℕ) (told : List ServedCall) (hand : List ℕ → Type 0)
+  pub chain_idles : {sent : List ℕ} (y : History) (before : Standing) (offer : List ℕ) (told : List ServedCall) (hand : List ℕ → Type 0)
       (untold : List LifeCall) (result : Result Unit SessionFault)
-      → Chain i.variant i.meaning offer before final told hand untold result → StandsFor i before y → IsWithin all others asked i y
+      → Chain i.variant i.meaning offer before final told hand sent untold result → StandsFor i before y → IsWithin all others asked i y
       → IsFirstGenuine i y (told_calls offer told ++ untold) → AreListed all asked i (told_calls offer told ++ untold)
       → (let calls = told_calls offer told ++ untold in (calls ≡ []) ⊎ ((c : LifeCall) × (calls ≡ c ∷ [])))
       → AreIdle y before (told_calls offer told ++ untold)
       → Lived y final (told_calls offer told ++ untold)
-      (λ after. SessionSteps i.meaning (requests_of y.batches) told hand result after)
-  chain_idles y before offer [] hand untold result k stands within first listed few idle =
-      ended y offer k.at [] hand untold (record {
+      (λ after. SessionSteps i.meaning (requests_of y.batches) told hand sent result after)
+  chain_idles {sent} y before offer [] hand untold result k stands within first listed few idle =
+      ended y offer k.at [] hand sent untold (record {
         after = y;
         stands = rw k.calls stands;
         within = within;
@@ -284,7 +295,7 @@ module _ {all others : List (List ℕ)} {asked : List Batch} {i : Instance} {fin
         first = first;
         listed = listed;
       }) result k.ends
-  chain_idles y before offer (c ∷ []) hand untold result k stands within first listed few idle =
+  chain_idles {sent} y before offer (c ∷ []) hand untold result k stands within first listed few idle =
       let made : LifeCall = call_of offer c.line (Ok c.answer) in
       let none : untold ≡ [] = elim few [ inl e ↦ absurd (cc) | inr one ↦ cc (one.1) ] in
       let one : made ∷ untold ≡ made ∷ [] = cc in
@@ -294,7 +305,7 @@ module _ {all others : List (List ℕ)} {asked : List Batch} {i : Instance} {fin
       (listed_first all asked i made untold listed) in
       let m = laws.idle y before k.calls.0 offer (pending_for c.line) (Ok (batch_answer_of c.answer)) makes
       (idle made one k.calls.0 makes) in
-      ended y offer k.at (c ∷ []) hand untold (record {
+      ended y offer k.at (c ∷ []) hand sent untold (record {
         after = m.after;
         stands = rw k.calls.2 m.stands;
         within = m.within;
@@ -305,5 +316,5 @@ module _ {all others : List (List ℕ)} {asked : List Batch} {i : Instance} {fin
         first = none_first i m.after untold none;
         listed = listed_rest all asked i made untold listed;
       }) result k.ends
-  chain_idles y before offer (c ∷ next ∷ told) hand untold result k stands within first listed few idle =
+  chain_idles {sent} y before offer (c ∷ next ∷ told) hand untold result k stands within first listed few idle =
       elim few [ inl e ↦ absurd (cc) | inr one ↦ let clash = one.1 in absurd (cc) ]

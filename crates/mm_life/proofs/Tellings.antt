@@ -86,8 +86,8 @@ module _ (meaning : Meaning) where
   ran_call request (Err why) requests between after more (inr untold) r =
       ran_kept requests between after request (tellings_in more) untold.1 r
 
-  ran_session : (told : List ServedCall) (hand : List ℕ → Type 0) (result : Result Unit SessionFault)
-      (requests between after : List (List ℕ)) (more : List Reply) → SessionSteps meaning requests told hand result between
+  ran_session : {sent : List ℕ} (told : List ServedCall) (hand : List ℕ → Type 0) (result : Result Unit SessionFault)
+      (requests between after : List (List ℕ)) (more : List Reply) → SessionSteps meaning requests told hand sent result between
       → Ran meaning between (tellings_in more) after → Ran meaning requests (tellings_in (told_replies told ++ more)) after
   ran_session told hand result requests between after more s r =
       ran_told told requests s.between after more s.run

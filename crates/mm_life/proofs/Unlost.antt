@@ -6,6 +6,7 @@ use Rattle.std.proofs.Common.{ap, subst}
 use Rattle.mm_digest.specs.declared.variant.Variant.TheVariants.{Opt}
 use Rattle.mm_platform.specs.Standing.{Standing}
 use Rattle.mm_platform.specs.declared.fault.StepFault.{StepFault}
+use Rattle.mm_module.specs.Batch.{Batch}
 use Rattle.mm_module.specs.Meaning.{Meaning}
 use Rattle.mm_model.specs.History.{Close, Foreign}
 use Rattle.mm_model.specs.Instance.{Instance}
@@ -88,11 +89,11 @@ module _ (meaning : Meaning) (key barrier : List ℕ) where
   pub still_open : (old new : Standing) → new.cell ≡ old.cell → has_open_segment new ≡ has_open_segment old
   still_open old new same = ap (λ (c : Option (List ℕ)). bytes_eq (option_map_or flag_in c []) (1 ∷ [])) same
 
-  pub unlost : (others : List (List ℕ)) (old new : SessionStanding) (result : Result Unit SessionFault)
+  pub unlost : (all others : List (List ℕ)) (asked : List Batch) (old new : SessionStanding) (result : Result Unit SessionFault)
       (ran : IsSession Opt meaning old new result) (waiting : Option PendingRecord) (requests after : List (List ℕ))
-      → GoesOnOver others I ran waiting requests after → has_open_segment old.standing ≡ false
+      → GoesOnOver all others asked I ran waiting requests after → has_open_segment old.standing ≡ false
       → result ≢ Err (Host (Refused refusal.Lost))
-  unlost others old new result ran waiting requests after g shut is =
+  unlost all others asked old new result ran waiting requests after g shut is =
       let s = stands_at I old.standing g.entered.history g.entered.stands in
       let tells : TellsFlag old.standing (digests_of I g.entered.history).flag =
       record { cell = _; is_cell = s.spells; tells = s.cell; shows = refl } in

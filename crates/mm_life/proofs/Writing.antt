@@ -1,7 +1,5 @@
 -- How often the cell is written over a life, by the counts of its parts.
-use Rattle.std.specs.Option.{option_map_or}
-use Rattle.std.specs.Str.{bytes_eq}
-use Rattle.std.proofs.Common.{◌≡◌, ◌≤◌, ◌∙◌, ◌+◌, ℕ, List, [], ◌∷◌, Option, arith, refl, ap}
+use Rattle.std.proofs.Common.{◌≡◌, ◌≤◌, ◌+◌, ℕ, List, [], ◌∷◌, arith, refl}
 use Rattle.mm_digest.specs.declared.variant.Variant.{Variant}
 use Rattle.mm_digest.specs.declared.variant.Variant.TheVariants.{Basic, Opt}
 use Rattle.mm_platform.specs.Standing.{Standing}
@@ -13,29 +11,28 @@ use Rattle.mm_call.specs.Standing.{StandsAt}
 use Rattle.mm_call.proofs.Above.{stands_at}
 use Rattle.mm_recovery.specs.CellWrites.{TellsFlag}
 use Rattle.mm_life.specs.Deeds.{Calls, Checkpoints, Extends, LosesPower}
-use Rattle.mm_life.specs.IdleParts.{flag_in, has_open_segment}
 use Rattle.mm_life.specs.OneList.{life_replies, part_replies, told_replies}
 use Rattle.mm_life.specs.SessionCalls.{first_bytes, served_calls_of}
 use Rattle.mm_life.specs.Stages.{Does, Holds, IsLife, LifePart, PartLeads, Program, LifeStage}
 use Rattle.mm_life.specs.LifeWrites.{BasicLivesWriteOnce, OptLivesWriteOnce, PartWrites, WritesOnceEach, new_replies, part_stop}
-use Rattle.mm_life.specs.LifeWrites.{segment_turns, session_stop, turns_between, turns_unless_stopped}
+use Rattle.mm_life.specs.LifeWrites.{part_turns, part_turns_in_hand, segment_turns, session_stop, stops_in, turns_in_hand}
 use Rattle.mm_life.proofs.Chains.{session_chain}
 use Rattle.mm_life.proofs.Standings.{part_stands}
-use Rattle.mm_life.proofs.CallCounts.{basic_counts, call_writes, CallsWrite, ends_writes, opt_counts, told_write, turned_same}
+use Rattle.mm_life.proofs.CallCounts.{basic_counts, call_writes, CallsWrite, ends_writes, opt_counts, told_write}
 use Rattle.mm_life.proofs.ClosingCounts.{basic_checked, opt_checked}
 use Rattle.mm_life.proofs.Longer.{life_longer, new_append}
 
 -- one part
-record PartCounts (old : Standing) (part : LifePart) (new : Standing) (due : ℕ) : Type 0 where
+record PartCounts (old : Standing) (part : LifePart) (new : Standing) (due most : ℕ) : Type 0 where
   in_hand : ℕ
-  few : in_hand ≤ part_stop part
+  few : in_hand ≤ most
   writes : PartWrites old part new (due + in_hand)
 
 -- a still part was to write nothing
-still_counts : (old new : Standing) (values : List (List ℕ)) → PartCounts old (Does (Extends values)) new 0
+still_counts : (old new : Standing) (values : List (List ℕ)) → PartCounts old (Does (Extends values)) new 0 0
 still_counts old new values = record { in_hand = 0; few = omega arith; writes = omega arith }
 
-lost_counts : (old new : Standing) → PartCounts old (Does LosesPower) new 0
+lost_counts : (old new : Standing) → PartCounts old (Does LosesPower) new 0 0
 lost_counts old new = record { in_hand = 0; few = omega arith; writes = omega arith }
 
 session_writes : (variant : Variant) (meaning : Meaning) (old new : Standing) (p : Program)
@@ -51,20 +48,22 @@ session_writes variant meaning old new p f =
     }
 
 -- a part, and the parts behind it
-joined_parts : (start : Standing) (stage : LifeStage) (stages : List LifeStage) (here later due : ℕ) → due ≡ here + later
-    → PartCounts start stage.part stage.after here → WritesOnceEach stage.after stages later → WritesOnceEach start (stage ∷ stages) due
-joined_parts start stage stages here later due e p r = record {
+joined_parts : (start : Standing) (stage : LifeStage) (stages : List LifeStage) (here later due most more : ℕ) → due ≡ here + later
+    → PartCounts start stage.part stage.after here most → WritesOnceEach stage.after stages later more
+    → WritesOnceEach start (stage ∷ stages) due (most + more)
+joined_parts start stage stages here later due most more e p r = record {
   in_hand = p.in_hand + r.in_hand;
   few = omega (arith, p.few, r.few);
   writes = (here + p.in_hand, later + r.in_hand, omega (arith, e), p.writes, r.writes);
 }
 
-no_parts : (start : Standing) → WritesOnceEach start [] 0
+no_parts : (start : Standing) → WritesOnceEach start [] 0 0
 no_parts start = record { in_hand = 0; few = omega arith; writes = omega arith }
 
 module _ (meaning : Meaning) (key : List ℕ) where
   basic_part : (old : Standing) (part : LifePart) (new : Standing) (f : PartLeads Basic meaning old part new) (d : Digests)
-      → StandsAt (basic_instance meaning key) old d → PartCounts old part new (new_replies (part_replies Basic meaning old part new f))
+      → StandsAt (basic_instance meaning key) old d
+      → PartCounts old part new (new_replies (part_replies Basic meaning old part new f)) (part_stop part)
   basic_part old (Holds p) new f d s =
       let c = basic_counts old new _ _ (session_writes Basic meaning old new p f) in
       record { in_hand = c.in_hand; few = c.few; writes = c.writes }
@@ -79,23 +78,18 @@ module _ (meaning : Meaning) (key : List ℕ) where
 
   basic_lives : (stages : List LifeStage) (start : Standing) (f : IsLife Basic meaning start stages) (d : Digests)
       → StandsAt (basic_instance meaning key) start d
-      → WritesOnceEach start stages (new_replies (life_replies Basic meaning start stages f))
+      → WritesOnceEach start stages (new_replies (life_replies Basic meaning start stages f)) (stops_in stages)
   basic_lives [] start f d s = no_parts start
   basic_lives (stage ∷ stages) start f d s =
       let n = part_stands Basic meaning key key start stage.part stage.after f.0 d s in
-      joined_parts start stage stages _ _ _
+      joined_parts start stage stages _ _ _ _ _
       (new_append (part_replies Basic meaning start stage.part stage.after f.0) (life_replies Basic meaning stage.after stages f.1))
       (basic_part start stage.part stage.after f.0 d s) (basic_lives stages stage.after f.1 n.digests n.stands)
 
 module _ (meaning : Meaning) (key barrier : List ℕ) where
-  unturned : (old new : Standing) → new.cell ≡ old.cell → turns_between (has_open_segment old) (has_open_segment new) ≡ 0
-  unturned old new same =
-      ap (λ (c : Option (List ℕ)). turns_between (has_open_segment old) (bytes_eq (option_map_or flag_in c []) (1 ∷ []))) same
-      ∙ turned_same (has_open_segment old)
-
-  opt_part : (old : Standing) (part : LifePart) (new : Standing) → PartLeads Opt meaning old part new → (d : Digests)
+  opt_part : (old : Standing) (part : LifePart) (new : Standing) (f : PartLeads Opt meaning old part new) (d : Digests)
       → StandsAt (opt_instance meaning key barrier) old d
-      → PartCounts old part new (turns_unless_stopped (part_stop part) (has_open_segment old) (has_open_segment new))
+      → PartCounts old part new (part_turns meaning old part new f) (part_turns_in_hand meaning old part new f)
   opt_part old (Holds p) new f d s =
       let before : TellsFlag old d.flag = record { cell = _; is_cell = s.spells; tells = s.cell; shows = refl } in
       let c = opt_counts old new _ _ (session_writes Opt meaning old new p f) d.flag before in
@@ -104,18 +98,19 @@ module _ (meaning : Meaning) (key barrier : List ℕ) where
       let before : TellsFlag old d.flag = record { cell = _; is_cell = s.spells; tells = s.cell; shows = refl } in
       let c = opt_counts old new _ _ (call_writes Opt meaning old new call.offer call.request call.gives f) d.flag before in
       record { in_hand = c.in_hand; few = c.few; writes = c.writes }
-  opt_part old (Does (Extends values)) new f d s = rw (unturned old new f.0) (still_counts old new values)
-  opt_part old (Does LosesPower) new f d s = rw (unturned old new f.0) (lost_counts old new)
+  opt_part old (Does (Extends values)) new f d s = still_counts old new values
+  opt_part old (Does LosesPower) new f d s = lost_counts old new
   opt_part old (Does (Checkpoints said)) new f d s =
       let c = opt_checked meaning key barrier old new said f d s in
       record { in_hand = c.in_hand; few = c.few; writes = c.writes }
 
-  opt_lives : (stages : List LifeStage) (start : Standing) → IsLife Opt meaning start stages → (d : Digests)
-      → StandsAt (opt_instance meaning key barrier) start d → WritesOnceEach start stages (segment_turns start stages)
+  opt_lives : (stages : List LifeStage) (start : Standing) (f : IsLife Opt meaning start stages) (d : Digests)
+      → StandsAt (opt_instance meaning key barrier) start d
+      → WritesOnceEach start stages (segment_turns meaning start stages f) (turns_in_hand meaning start stages f)
   opt_lives [] start f d s = no_parts start
   opt_lives (stage ∷ stages) start f d s =
       let n = part_stands Opt meaning key barrier start stage.part stage.after f.0 d s in
-      joined_parts start stage stages _ _ _ refl (opt_part start stage.part stage.after f.0 d s)
+      joined_parts start stage stages _ _ _ _ _ refl (opt_part start stage.part stage.after f.0 d s)
       (opt_lives stages stage.after f.1 n.digests n.stands)
 
 pub basic_lives_write : BasicLivesWriteOnce

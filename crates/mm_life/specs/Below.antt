@@ -1,5 +1,5 @@
 -- The words that the definitions of this crate take from the crates below.
-pub use Rattle.mm_base.specs.Limits.{last_position}
+pub use Rattle.mm_bytes.specs.Limits.{last_position}
 pub use Rattle.mm_digest.specs.Messages.{anchored_message, extended_message, start_message, zero_bytes}
 pub use Rattle.mm_digest.specs.declared.variant.Variant.{Variant}
 pub use Rattle.mm_digest.specs.declared.variant.Variant.TheVariants.{Basic, Opt}
@@ -52,6 +52,6 @@ pub use Rattle.mm_recovery.specs.declared.resuming.Resumed.{Resumed}
 pub use Rattle.mm_host.specs.SessionStanding.{SessionStanding, host_of, session_standing}
 pub use Rattle.mm_host.specs.AnySlots.{MayStart}
 pub use Rattle.mm_host.specs.Continuation.{AreToldOnce, HasUntoldRequest, IsInHand, IsNotBeyond, RefusesAs, CallsRunOver, answer_reply}
-pub use Rattle.mm_host.specs.Continuation.{served_calls_in}
+pub use Rattle.mm_host.specs.Continuation.{IsToldInPart, last_bytes_in, served_calls_in}
 pub use Rattle.mm_host.specs.Sessions.{SessionGoesAfterResume, ServesAllLines, SessionPlace, ServedCall, IsSession}
 pub use Rattle.mm_host.specs.declared.fault.SessionFault.{SessionFault}

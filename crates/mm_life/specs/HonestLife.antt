@@ -1,13 +1,17 @@
 -- A life over one honest store: each program starts over what the one before it left, and nobody
 -- else calls.
-use Rattle.std.specs.Prelude.{◌≡◌, ◌≢◌, ◌+◌, ◌-◌, ◌≤◌, ℕ, true, List, [], ◌∷◌, ◌++◌, Option, None, Some, Result, Err, length, ◌⊎◌}
+use Rattle.std.specs.Prelude.{◌≡◌, ◌≢◌, ◌+◌, ◌-◌, ◌≤◌, ℕ, true, false, List, [], ◌∷◌, ◌++◌, Option, None, Some, Result, Err, length, ◌⊎◌}
+use Rattle.std.specs.List.{AllByRecursion}
 use Rattle.mm_life.specs.Below.{Variant, Basic, Opt, Standing, IsLawful, Meaning, History, first_history, requests_of, Instance}
 use Rattle.mm_life.specs.Below.{basic_instance, opt_instance, StandsFor, Batch, IsClear, AreNoGuards, IsWithin, Lost, Spoiled, life_of}
 use Rattle.mm_life.specs.Below.{first_history_on, first_slots, PendingRecord, Slots, slot_front, IsWaiting, IsInHand, ServedCall}
-use Rattle.mm_life.specs.Below.{SessionFault, served_calls_in, last_position, StoreStanding, AreToldOnce, FitsHistory, IsNotBeyond}
-use Rattle.mm_life.specs.Below.{RefusesAs, Store, IsSession, SessionStanding}
+use Rattle.mm_life.specs.Below.{SessionFault, last_bytes_in, served_calls_in, last_position, StoreStanding, AreToldOnce, FitsHistory, IsNotBeyond}
+use Rattle.mm_life.specs.Below.{Refusal, RefusesAs, Store, IsSession, SessionStanding}
+use Rattle.mm_model.specs.declared.refusal.Refusal.TheVariants as refusal
+use Rattle.mm_recovery.specs.declared.fault.HostFault.TheVariants.{Refused}
 use Rattle.mm_host.specs.declared.fault.SessionFault.TheVariants.{Host}
-use Rattle.mm_life.specs.Deeds.{Calls}
+use Rattle.mm_life.specs.Deeds.{Calls, LosesPower}
+use Rattle.mm_life.specs.IdleParts.{has_open_segment}
 use Rattle.mm_life.specs.OneList.{LifeFollows, SessionSteps}
 use Rattle.mm_life.specs.Premises.{life_batches, life_messages, opt_messages, others_values}
 use Rattle.mm_life.specs.Stages.{Does, Holds, IsLife, LifePart, PartLeads, LifeStage, end_of}
@@ -75,57 +79,82 @@ IsNextOrLast requests (Some p) =
     ⊎ ((p.position ≡ length requests)
     × (front : List (List ℕ)) × (front ++ p.request ∷ [] ≡ requests))
 
--- The platform stands for a history of these requests.
-pub record HasHistory (i : Instance) (standing : Standing) (requests : List (List ℕ)) : Type 0 where
-  pub history : History
-  pub stands : StandsFor i standing history
-  pub holds : requests_of history.batches ≡ requests
+-- What is said of one instance: others' values and the requests that were asked are among these,
+-- and the messages of its history in a list.
+module _ (all others : List (List ℕ)) (asked : List Batch) (i : Instance) where
+  -- The platform stands for a history of these requests, to which calls, others and losses of power
+  -- led: each value in it that stands for no request, and counts, is among those of others.
+  pub record HasHistory (standing : Standing) (requests : List (List ℕ)) : Type 0 where
+    pub history : History
+    pub stands : StandsFor i standing history
+    pub within : IsWithin all others asked i history
+    pub holds : requests_of history.batches ≡ requests
 
--- A session goes on from a list of requests to another. What waits is the next request or the last;
--- it is told first, and each line is new; and no request is behind the last position. A refusal is
--- by a device's fault; or Full, and every position is used up; or in Opt as the history at the end
--- is lost, and then it was lost before the session, or spoiled, and then by values of others.
-pub record GoesOnOver (others : List (List ℕ)) (i : Instance) {old new : SessionStanding}
-    {result : Result Unit SessionFault} (s : IsSession i.variant i.meaning old new result)
-    (waiting : Option PendingRecord) (requests after : List (List ℕ)) : Type 0 where
-  pub waits : IsNextOrLast requests waiting
-  pub steps : SessionSteps i.meaning requests (served_calls_in waiting s.goes)
-      (IsInHand waiting s.goes) result after
-  pub once : AreToldOnce (length requests) waiting (served_calls_in waiting s.goes)
-  pub room : length after ≤ last_position
-  pub entered : HasHistory i old.standing requests
-  pub left : HasHistory i new.standing after
-  pub refuses : RefusesAs result i.variant left.history
-  pub powered : life_of i.variant entered.history ≢ Lost → life_of i.variant left.history ≢ Lost
-  pub unspoiled : others ≡ [] → life_of i.variant left.history ≢ Spoiled
+  -- A session goes on from a list of requests to another. What waits is the next request or the
+  -- last; it is told first, and each line is new; and no request is behind the last position. A
+  -- refusal is by a device's fault; or Full, and every position is used up; or in Opt as the
+  -- history at the end is lost, and then it was lost before the session, or spoiled, and then by
+  -- values of others.
+  pub record GoesOnOver {old new : SessionStanding} {result : Result Unit SessionFault}
+      (s : IsSession i.variant i.meaning old new result) (waiting : Option PendingRecord)
+      (requests after : List (List ℕ)) : Type 0 where
+    pub waits : IsNextOrLast requests waiting
+    pub steps : SessionSteps i.meaning requests (served_calls_in waiting s.goes)
+        (IsInHand waiting s.goes) (last_bytes_in s.goes) result after
+    pub once : AreToldOnce (length requests) waiting (served_calls_in waiting s.goes)
+    pub room : length after ≤ last_position
+    pub entered : HasHistory old.standing requests
+    pub left : HasHistory new.standing after
+    pub refuses : RefusesAs result i.variant left.history
+    pub powered : life_of i.variant entered.history ≢ Lost → life_of i.variant left.history ≢ Lost
+    pub unspoiled : others ≡ [] → life_of i.variant left.history ≢ Spoiled
 
-abbrev pub PartGoesOn : (others : List (List ℕ)) (i : Instance) (old : Standing) (part : LifePart)
-    (new : Standing) → PartLeads i.variant i.meaning old part new → List (List ℕ) → List (List ℕ)
-    → Type 0
-PartGoesOn others i old (Holds p) new s requests after =
-    (waiting : Option PendingRecord) × WaitsInSlots p.old.kept.slots waiting
-    × GoesOnOver others i s waiting requests after
-PartGoesOn others i old (Does deed) new f requests after = after ≡ requests
+  abbrev pub PartGoesOn : (old : Standing) (part : LifePart) (new : Standing)
+      → PartLeads i.variant i.meaning old part new → List (List ℕ) → List (List ℕ) → Type 0
+  PartGoesOn old (Holds p) new s requests after =
+      (waiting : Option PendingRecord) × WaitsInSlots p.old.kept.slots waiting
+      × GoesOnOver s waiting requests after
+  PartGoesOn old (Does deed) new f requests after = after ≡ requests
 
--- each part of a life goes on from the requests that those before it left
-abbrev pub GoesOnFrom : (others : List (List ℕ)) (i : Instance) (start : Standing)
-    (stages : List LifeStage) → IsLife i.variant i.meaning start stages → List (List ℕ)
-    → List (List ℕ) → Type 0
-GoesOnFrom others i start [] f requests after = after ≡ requests
-GoesOnFrom others i start (stage ∷ stages) f requests after =
-    (between : List (List ℕ))
-    × PartGoesOn others i start stage.part stage.after f.0 requests between
-    × GoesOnFrom others i stage.after stages f.1 between after
+  -- each part of a life goes on from the requests that those before it left
+  abbrev pub GoesOnFrom : (start : Standing) (stages : List LifeStage)
+      → IsLife i.variant i.meaning start stages → List (List ℕ) → List (List ℕ) → Type 0
+  GoesOnFrom start [] f requests after = after ≡ requests
+  GoesOnFrom start (stage ∷ stages) f requests after =
+      (between : List (List ℕ)) × PartGoesOn start stage.part stage.after f.0 requests between
+      × GoesOnFrom stage.after stages f.1 between after
+
+-- power is lost in Opt only where no segment is open
+abbrev pub KeepsSegment : Variant → Standing → LifePart → Type 0
+KeepsSegment Opt old (Does LosesPower) = has_open_segment old ≡ false
+KeepsSegment variant old part = Unit {0}
+
+abbrev pub KeepsSegments : Variant → Standing → List LifeStage → Type 0
+KeepsSegments variant start [] = Unit {0}
+KeepsSegments variant start (stage ∷ stages) =
+    KeepsSegment variant start stage.part × KeepsSegments variant stage.after stages
+
+-- no session is refused so
+abbrev pub IsNotRefusedAs : Refusal → LifePart → Type 0
+IsNotRefusedAs why (Holds p) = p.result ≢ Err (Host (Refused why))
+IsNotRefusedAs why (Does deed) = Unit {0}
+
+abbrev pub NoneIsRefusedAs : Refusal → List LifeStage → Type 0
+NoneIsRefusedAs why stages = AllByRecursion (λ stage. IsNotRefusedAs why stage.part) stages
 
 -- A life goes on over one store, from no request: there is one list that all of it follows; so what
--- a module promises of a life holds of it (`LivesKeepPromises`). And at its end the platform stands
--- for a history of this list, which the slots fit: so the next session may go on from there.
+-- a module promises of a life holds of it (`LivesKeepPromises`). No session is refused as Lost
+-- where power is lost in no open segment, nor as Stale where others extended the register by
+-- nothing. And at its end the platform stands for a history of this list, which the slots fit: so
+-- the next session may go on from there.
 pub record IsGoneOnWith (all others : List (List ℕ)) (asked : List Batch) (i : Instance)
     (kept : StoreStanding) (start : Standing) (stages : List LifeStage)
     (f : IsLife i.variant i.meaning start stages) : Type 0 where
   pub after : List (List ℕ)
-  pub goes : GoesOnFrom others i start stages f [] after
+  pub goes : GoesOnFrom all others asked i start stages f [] after
   pub follows : LifeFollows i.variant i.meaning start stages f [] after
+  pub unlost : KeepsSegments i.variant start stages → NoneIsRefusedAs refusal.Lost stages
+  pub unspoiled : others ≡ [] → NoneIsRefusedAs refusal.Stale stages
   pub history : History
   pub holds : requests_of history.batches ≡ after
   pub stands : StandsFor i (end_of start stages) history

@@ -11,3 +11,5 @@ pub mod DeviceDeeds
 pub mod HonestLife
 pub mod OneStore
 pub mod LifeWrites
+pub mod OneRequest
+pub mod KilledPrograms

@@ -1,19 +1,20 @@
 -- How often the cell is written over a life.
-use Rattle.std.specs.Prelude.{◌≡◌, ◌+◌, ◌≤◌, ℕ, zero, suc, Bool, true, false, List, [], ◌∷◌, Option, None, Some, Result, Ok, Err, length}
-use Rattle.mm_lines.specs.declared.replay_fault.ReplayFault.TheVariants.{WriteFault}
+use Rattle.std.specs.Prelude.{◌≡◌, ◌+◌, ◌≤◌, ℕ, zero, suc, Bool, true, false, List, [], ◌∷◌, Option, None, Some, Result, Ok, Err, length, if◌then◌else◌}
+use Rattle.mm_base.specs.declared.replay_fault.ReplayFault.TheVariants.{WriteFault}
 use Rattle.mm_opt.specs.declared.segment.CheckpointRefusal.TheVariants.{Device}
 use Rattle.mm_recovery.specs.declared.fault.HostFault.TheVariants.{Refused}
 use Rattle.mm_host.specs.declared.fault.SessionFault.TheVariants.{Host, Lines}
 use Rattle.mm_schedule.specs.declared.reply.Reply.TheVariants.{Told}
 use Rattle.mm_call.specs.Standing.{count_after_more}
 use Rattle.mm_platform.specs.declared.fault.StepFault.{StepFault}
-use Rattle.mm_recovery.specs.CellWrites.{new_requests_by}
+use Rattle.mm_recovery.specs.CellWrites.{is_open_after, new_requests_by, openings}
 use Rattle.mm_life.specs.Below.{Basic, Opt, Standing, Meaning, History, StandsFor, basic_instance, opt_instance, Answer, Refusal, fault_of}
 use Rattle.mm_life.specs.Below.{CheckpointRefusal, Checkpointed, HostFault, Reply, SessionFault}
 use Rattle.mm_life.specs.Deeds.{Calls, Checkpoints, Extends, LosesPower}
 use Rattle.mm_life.specs.IdleParts.{has_open_segment}
-use Rattle.mm_life.specs.OneList.{LifeFollows, life_replies}
-use Rattle.mm_life.specs.Stages.{Does, Holds, IsLife, LifePart, LifeStage}
+use Rattle.mm_life.specs.OneList.{LifeFollows, call_replies, life_replies, told_replies}
+use Rattle.mm_life.specs.SessionCalls.{served_calls_of}
+use Rattle.mm_life.specs.Stages.{Does, Holds, IsLife, LifePart, LifeStage, PartLeads}
 
 -- The cell was to be written so often in a part of a life, by the platform's count; others, and a
 -- loss of power, write none.
@@ -74,7 +75,7 @@ abbrev pub new_replies : List Reply → ℕ
 new_replies [] = 0
 new_replies (reply ∷ replies) = new_reply reply + new_replies replies
 
--- the segments that were opened or closed: the parts without a stop that leave another flag
+-- the segments that a checkpoint closed, where it didn't stop: it leaves another flag
 abbrev pub turns_between : Bool → Bool → ℕ
 turns_between true false = 1
 turns_between false true = 1
@@ -84,25 +85,60 @@ abbrev pub turns_unless_stopped : ℕ → Bool → Bool → ℕ
 turns_unless_stopped zero before after = turns_between before after
 turns_unless_stopped (suc stops) before after = 0
 
-abbrev pub segment_turns : Standing → List LifeStage → ℕ
-segment_turns start [] = 0
-segment_turns start (stage ∷ stages) =
-    turns_unless_stopped (part_stop stage.part) (has_open_segment start)
-    (has_open_segment stage.after)
-    + segment_turns stage.after stages
+-- The segments of Opt that a part opened or closed: where none was open, and a request was told for
+-- the first time, one was opened, however the part ended; and a checkpoint closed one.
+abbrev pub part_turns : (meaning : Meaning) (old : Standing) (part : LifePart) (new : Standing)
+    → PartLeads Opt meaning old part new → ℕ
+part_turns meaning old (Holds p) new s =
+    openings (has_open_segment old) (new_replies (told_replies (served_calls_of s)))
+part_turns meaning old (Does (Calls c)) new f =
+    openings (has_open_segment old) (new_replies (call_replies c.gives))
+part_turns meaning old (Does (Checkpoints said)) new f =
+    turns_unless_stopped (checkpoint_stop said) (has_open_segment old) (has_open_segment new)
+part_turns meaning old (Does _) new f = 0
 
--- The cell was to be written once for each of so many that are due, and at most once for what was
--- in hand at each stop.
-pub record WritesOnceEach (start : Standing) (stages : List LifeStage) (due : ℕ) : Type 0 where
+-- At a stop what was in hand may have turned the flag too: a request, where no segment was open
+-- then; and a closing, where one was.
+abbrev pub part_turns_in_hand : (meaning : Meaning) (old : Standing) (part : LifePart)
+    (new : Standing) → PartLeads Opt meaning old part new → ℕ
+part_turns_in_hand meaning old (Holds p) new s =
+    openings (is_open_after (has_open_segment old)
+    (new_replies (told_replies (served_calls_of s)))) (session_stop p.result)
+part_turns_in_hand meaning old (Does (Calls c)) new f =
+    openings (is_open_after (has_open_segment old) (new_replies (call_replies c.gives)))
+    (call_stop c.gives)
+part_turns_in_hand meaning old (Does (Checkpoints said)) new f =
+    if has_open_segment old then checkpoint_stop said else 0
+part_turns_in_hand meaning old (Does _) new f = 0
+
+-- those of all parts
+abbrev pub segment_turns : (meaning : Meaning) (start : Standing) (stages : List LifeStage)
+    → IsLife Opt meaning start stages → ℕ
+segment_turns meaning start [] f = 0
+segment_turns meaning start (stage ∷ stages) f =
+    part_turns meaning start stage.part stage.after f.0
+    + segment_turns meaning stage.after stages f.1
+
+abbrev pub turns_in_hand : (meaning : Meaning) (start : Standing) (stages : List LifeStage)
+    → IsLife Opt meaning start stages → ℕ
+turns_in_hand meaning start [] f = 0
+turns_in_hand meaning start (stage ∷ stages) f =
+    part_turns_in_hand meaning start stage.part stage.after f.0
+    + turns_in_hand meaning stage.after stages f.1
+
+-- The cell was to be written once for each of so many that are due, and for what was in hand at
+-- stops at most so often.
+pub record WritesOnceEach (start : Standing) (stages : List LifeStage) (due most : ℕ) : Type 0 where
   pub in_hand : ℕ
-  pub few : in_hand ≤ stops_in stages
+  pub few : in_hand ≤ most
   pub writes : LifeWrites start stages (due + in_hand)
 
--- In Basic it is due for each request that was told for the first time. Those are on the list, and
--- besides them at most the one in hand at each stop.
+-- In Basic it is due for each request that was told for the first time, and in hand at each stop.
+-- Those are on the list, and besides them at most the one in hand at each stop.
 pub record BasicWrites (meaning : Meaning) (start : Standing) (stages : List LifeStage)
     (f : IsLife Basic meaning start stages) (requests : List (List ℕ)) : Type 0 where
   pub once : WritesOnceEach start stages (new_replies (life_replies Basic meaning start stages f))
+      (stops_in stages)
   pub kept : ℕ
   pub few : kept ≤ stops_in stages
   pub listed : length requests ≡ new_replies (life_replies Basic meaning start stages f) + kept
@@ -115,11 +151,12 @@ BasicLivesWriteOnce =
     → LifeFollows Basic meaning start stages f [] requests →
     BasicWrites meaning start stages f requests
 
--- In Opt for each segment that was opened, and for each that was closed; however many requests were
--- told.
+-- In Opt for each segment that was opened, and for each that was closed, however many requests were
+-- told; and in hand where the flag may have been turned.
 abbrev pub OptLivesWriteOnce : Type 0
 OptLivesWriteOnce =
     (meaning : Meaning) (key barrier : List ℕ) (y : History) (start : Standing)
-    (stages : List LifeStage) → IsLife Opt meaning start stages →
+    (stages : List LifeStage) (f : IsLife Opt meaning start stages) →
     StandsFor (opt_instance meaning key barrier) start y →
-    WritesOnceEach start stages (segment_turns start stages)
+    WritesOnceEach start stages (segment_turns meaning start stages f)
+    (turns_in_hand meaning start stages f)

@@ -3,7 +3,9 @@ use Rattle.std.specs.Prelude.{◌≡◌, ℕ, List, [], ◌∷◌, ◌++◌, Res
 use Rattle.std.specs.List.{AllByRecursion}
 use Rattle.mm_life.specs.Below.{Variant, Standing, Batch, One, Meaning, Answer, History, requests_of, Instance, IsGenuine, StandsFor}
 use Rattle.mm_life.specs.Below.{Refusal, Memory, IsWithin, finding_at, list_level, fault_of, IsBatchStep, Reply, answer_reply, ServedCall}
-use Rattle.mm_life.specs.Below.{HasUntoldRequest, CallsRunOver, SessionFault}
+use Rattle.mm_life.specs.Below.{HasUntoldRequest, IsToldInPart, CallsRunOver, SessionFault, last_bytes_in}
+use Rattle.mm_base.specs.declared.replay_fault.ReplayFault.TheVariants.{WriteFault}
+use Rattle.mm_host.specs.declared.fault.SessionFault.TheVariants.{Lines}
 use Rattle.mm_life.specs.Deeds.{LifeCall, Calls}
 use Rattle.mm_life.specs.SessionCalls.{IsInHandOf, served_calls_of}
 use Rattle.mm_life.specs.Stages.{Does, Holds, IsLife, LifePart, PartLeads, LifeStage, end_of, latest_calls}
@@ -18,13 +20,15 @@ CallSteps meaning requests request (Err why) after =
     (after ≡ requests) ⊎ (IsSome (fault_of why) × (after ≡ requests ++ request ∷ []))
 
 -- A session on a list of requests: what it told are steps of the machine, one after another; and
--- where it stopped the request in hand may be run, and not told.
+-- where it stopped the request in hand may be run, and not told. Where the output failed, what is
+-- out behind that is a front of a line by which the list goes on so.
 pub record SessionSteps (meaning : Meaning) (requests : List (List ℕ)) (told : List ServedCall)
-    (hand : List ℕ → Type 0) (result : Result Unit SessionFault)
+    (hand : List ℕ → Type 0) (last : List ℕ) (result : Result Unit SessionFault)
     (after : List (List ℕ)) : Type 0 where
   pub between : List (List ℕ)
   pub run : CallsRunOver meaning requests told between
   pub committed : (after ≡ between) ⊎ HasUntoldRequest hand result between after
+  pub in_part : result ≡ Err (Lines WriteFault) → IsToldInPart meaning hand last between after
 
 -- the replies that are told of calls
 abbrev pub told_replies : List ServedCall → List Reply
@@ -40,7 +44,8 @@ abbrev pub PartSteps : (variant : Variant) (meaning : Meaning) (old : Standing) 
     (new : Standing) → PartLeads variant meaning old part new → List (List ℕ) → List (List ℕ)
     → Type 0
 PartSteps variant meaning old (Holds p) new s requests after =
-    SessionSteps meaning requests (served_calls_of s) (IsInHandOf s) p.result after
+    SessionSteps meaning requests (served_calls_of s) (IsInHandOf s) (last_bytes_in s.goes) p.result
+    after
 PartSteps variant meaning old (Does (Calls c)) new s requests after =
     CallSteps meaning requests c.request c.gives after
 PartSteps variant meaning old (Does _) new s requests after = after ≡ requests

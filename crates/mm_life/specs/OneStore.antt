@@ -13,7 +13,7 @@ use Rattle.mm_evidence.specs.Evidence.{HasClash}
 use Rattle.mm_life.specs.HonestLife.{IsGoneOnWith}
 use Rattle.mm_life.specs.Premises.{life_batches, life_messages, opt_messages, others_values}
 use Rattle.mm_life.specs.Stages.{Does, IsLife, LifeStage, program_standing, session_stage}
-use Rattle.mm_life.specs.LifeWrites.{BasicWrites, WritesOnceEach, segment_turns}
+use Rattle.mm_life.specs.LifeWrites.{BasicWrites, WritesOnceEach, segment_turns, turns_in_hand}
 
 -- What the objects of such a life tell: the devices of a first start, what is left of the input of
 -- each session, and what the output of both received.
@@ -127,4 +127,5 @@ pub record LivesOverCheckpoint (meaning : Meaning) (old new : LifeStanding)
       life said two
   pub writes : (cell : List ℕ) (items : List Item) → old.devices.platform.cell ≡ Some cell →
       old.devices.platform.items ≡ Some items →
-      WritesOnceEach started.platform stages (segment_turns started.platform stages)
+      WritesOnceEach started.platform stages (segment_turns meaning started.platform stages life)
+      (turns_in_hand meaning started.platform stages life)

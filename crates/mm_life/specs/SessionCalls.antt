@@ -1,7 +1,7 @@
 -- The calls that a session made, one after another, by its steps; and what it told of them.
 use Rattle.std.specs.Prelude.{◌≡◌, ℕ, List, [], ◌∷◌, ◌++◌, Option, None, Some, Result, Ok, Err}
 use Rattle.std.proofs.Common.{inl, inr}
-use Rattle.mm_lines.specs.declared.replay_fault.ReplayFault.TheVariants.{WriteFault}
+use Rattle.mm_base.specs.declared.replay_fault.ReplayFault.TheVariants.{WriteFault}
 use Rattle.mm_life.specs.Below.{Variant, Meaning, StoreFault, PendingRecord, HostStanding, host_standing, HostGoesAfterRecord}
 use Rattle.mm_life.specs.Below.{AsksNextRequest, HostGoesAfterFinding, HostGoesAfterOffer, AsksAndKeepsAnswer, HostFault, Resumed}
 use Rattle.mm_life.specs.Below.{SessionGoesAfterResume, ServesAllLines, SessionPlace, SessionStanding, ServedCall, IsSession, IsInHand}

@@ -2,9 +2,11 @@
 
 ghost use Rattle.mm_life.specs.DeviceDeeds.{CyclesAreDeeds, ReadsAreDeeds};
 ghost use Rattle.mm_life.specs.DeedHistory.{BasicDeedsStay, OptDeedsStay};
+ghost use Rattle.mm_life.specs.OneRequest.{OneRequestMeetsPremises, OptRequestMeetsPremises};
 ghost use Rattle.mm_life.specs.LifeWrites.{BasicLivesWriteOnce, OptLivesWriteOnce};
 ghost use Rattle.mm_life.specs.Laws.{BasicLifeIsOne, LivesKeepPromises, LivesTellWhatWasSaid, NextMayStart, OptLifeIsOne, SessionsOfferSlots};
 
+use mm_outcome::premises_are_met;
 use mm_schedule::laws::{runs_keep_promises, tells_what_was_said};
 
 /// Basic: whatever is done to a platform behind its first start, there is one list of requests, and
@@ -18,6 +20,16 @@ pub fn basic_life_is_one()
 pub fn opt_life_is_one()
     ensures { OptLifeIsOne }
 {}
+
+/// What is asked of a life can be met: by a session of one request over the slots of a first start,
+/// under every key; in Opt with the barrier of each world, where nobody else extends the register.
+pub fn one_request_meets_premises()
+    ensures basic { OneRequestMeetsPremises }
+    ensures opt { OptRequestMeetsPremises }
+{
+    premises_are_met();
+    sessions_offer_slots();
+}
 
 /// What a session offers first is what its slots show.
 pub fn sessions_offer_slots()

@@ -7,9 +7,9 @@ ghost use Rattle.mm_life.specs.OneStore.{LivesOnOneStore, LivesOverCheckpoint, l
 
 use crate::honest::{basic_life_goes_on, opt_life_goes_on};
 use crate::laws::{device_calls_are_deeds, lives_write_once};
+use mm_base::{Sink, Source};
 use mm_digest::Variant;
 use mm_host::{InitFault, SessionFault, init, session};
-use mm_lines::{Sink, Source};
 use mm_module::Module;
 use mm_opt::{CheckpointRefusal, Checkpointed, checkpoint};
 use mm_platform::{Platform, StepFault};

@@ -2,15 +2,15 @@
 use Rattle.mm_recovery.proofs.Below.{ℕ, ◌≡◌, ◌≢◌, false, List, length, refl, arith, nat_lt, list_any, nat_tests, longest_request, One}
 use Rattle.mm_recovery.proofs.Below.{is_long, ◌+◌, ◌≤◌, ap, length-append, length-sha256, PendingRecord, length-pending_front}
 use Rattle.std.proofs.lemmas.List.Folds.{list_any_none}
-use Rattle.mm_lines.specs.Lines.{IsLineFront}
+use Rattle.mm_base.specs.Lines.{IsLineFront}
 use Rattle.mm_model.specs.LongWords.{is_lf}
 use Rattle.mm_store.specs.PendingRecord.{pending_front, pending_spelling, record_word, ReadsPendingRecord}
 use Rattle.mm_recovery.proofs.Below.{◌++◌, ◌<◌, ◌∙◌, sym, None, last_position}
 use Rattle.std.proofs.Common.{append_assoc}
 use Rattle.std.specs.Prelude.{◌^◌}
 use Rattle.sha2.specs.Sha256.{sha256}
-use Rattle.mm_base.specs.Fields.{eight_bytes, four_bytes}
-use Rattle.mm_base.specs.FieldLaws.{append-injective, eight_bytes-injective, length-eight_bytes}
+use Rattle.mm_bytes.specs.Fields.{eight_bytes, four_bytes}
+use Rattle.mm_bytes.specs.FieldLaws.{append-injective, eight_bytes-injective, length-eight_bytes}
 
 not_lf : (byte : ℕ) → byte ≢ 10 → is_lf byte ≡ false
 not_lf byte h = grind (arith, nat_tests, h)

@@ -11,9 +11,9 @@ pub use Rattle.std.proofs.Math.Seq.{take-add, take-nil}
 pub use Rattle.std.proofs.lemmas.Bool.Decides.{nat_tests}
 pub use Rattle.std.proofs.lemmas.List.{take_all}
 pub use Rattle.sha2.proofs.Facts256.{length-sha256}
-pub use Rattle.mm_base.specs.Faults.{next_count, CountRose}
-pub use Rattle.mm_base.specs.Limits.{last_position, longest_request}
-pub use Rattle.mm_lines.proofs.Above.{Consumes-both}
+pub use Rattle.mm_bytes.specs.Faults.{next_count, CountRose}
+pub use Rattle.mm_bytes.specs.Limits.{last_position, longest_request}
+pub use Rattle.mm_base.proofs.Above.{Consumes-both}
 pub use Rattle.mm_digest.specs.LengthLaws.{length-zero_bytes}
 pub use Rattle.mm_digest.specs.Messages.{start_message}
 pub use Rattle.mm_digest.specs.declared.variant.Variant.{Variant}

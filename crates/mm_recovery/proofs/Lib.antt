@@ -9,3 +9,4 @@ mod SettingUp
 mod Exits
 mod CellWriting
 mod OneCall
+mod Sizes

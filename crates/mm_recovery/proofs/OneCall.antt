@@ -42,4 +42,6 @@ is_call variant meaning old new offer request result gives e short asked =
       short = λ e. subst (λ (r : Result Answer Refusal). StepsBy variant (batch_result_of r) old new) e (a.steps short);
       fits = one.1;
       counts = counts variant meaning old new offer request result short a;
+      limited = short;
+      steps = a.calls.asks short;
     }

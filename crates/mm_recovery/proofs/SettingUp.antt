@@ -14,7 +14,7 @@ use Rattle.mm_recovery.proofs.Below.{HostStanding, host_among, host_standing}
 use Rattle.std.proofs.lemmas.List.{length-take}
 use Rattle.std.specs.List.{fold}
 use Rattle.std.specs.Result.{result_err}
-use Rattle.mm_base.specs.declared.fault.Failed.{Failed}
+use Rattle.mm_bytes.specs.declared.fault.Failed.{Failed}
 use Rattle.mm_model.specs.HistoryWords.{values_of as entry_values}
 use Rattle.mm_model.specs.ChainLaws.{length-anchor_of, length-summary_of}
 use Rattle.mm_model.specs.DigestLaws.{register_folds}

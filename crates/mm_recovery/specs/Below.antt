@@ -1,8 +1,8 @@
 -- The words that the definitions of this crate take from the crates below.
-pub use Rattle.mm_base.specs.Faults.{CountsFaults, CountRose}
-pub use Rattle.mm_base.specs.Limits.{last_position, longest_request}
-pub use Rattle.mm_lines.specs.Lines.{IsLineFront}
-pub use Rattle.mm_base.specs.declared.fault.Failed.{Failed}
+pub use Rattle.mm_bytes.specs.Faults.{CountsFaults, CountRose}
+pub use Rattle.mm_bytes.specs.Limits.{last_position, longest_request}
+pub use Rattle.mm_base.specs.Lines.{IsLineFront}
+pub use Rattle.mm_bytes.specs.declared.fault.Failed.{Failed}
 pub use Rattle.mm_digest.specs.Messages.{start_message}
 pub use Rattle.mm_digest.specs.declared.variant.Variant.{Variant}
 pub use Rattle.mm_digest.specs.declared.variant.Variant.TheVariants.{Basic, Opt}
@@ -19,6 +19,7 @@ pub use Rattle.mm_model.specs.History.{History, Move, Value, first_history, hist
 pub use Rattle.mm_model.specs.Instance.{Instance}
 pub use Rattle.mm_model.specs.InstanceWords.{basic_instance, opt_instance}
 pub use Rattle.mm_model.specs.Life.{Life, Lost as LostLife, Spoiled, life_of}
+pub use Rattle.mm_model.specs.Long.{is_long}
 pub use Rattle.mm_model.specs.Messages.{AreNoGuards, IsClear, AreMessagesIn}
 pub use Rattle.mm_model.specs.Moves.{MayMove}
 pub use Rattle.mm_model.specs.Places.{NamesPosition}
@@ -29,6 +30,7 @@ pub use Rattle.mm_model.specs.declared.refusal.Refusal.{Refusal}
 pub use Rattle.mm_model.specs.declared.refusal.Refusal.TheVariants.{Device, Long, Lost, Stale}
 pub use Rattle.mm_call.specs.Answers.{answer_on}
 pub use Rattle.mm_call.specs.CallPremises.{IsWithin, right_messages}
+pub use Rattle.mm_call.specs.CallKind.{IsAskedCall}
 pub use Rattle.mm_call.specs.CallOnCourse.{IsCallOnCourse}
 pub use Rattle.mm_call.specs.HistoryGrowth.{EndsWith}
 pub use Rattle.mm_call.specs.Counts.{CellIsWrittenAtMostOnce}
@@ -39,6 +41,7 @@ pub use Rattle.mm_call.specs.Premises.{AreShown, IsIdle}
 pub use Rattle.mm_call.specs.Refusals.{fault_in, fault_of}
 pub use Rattle.mm_call.specs.Standing.{count_after_more, instance_by}
 pub use Rattle.mm_call.specs.ShownItems.{standing_items}
+pub use Rattle.mm_ask.specs.WholeAsk.{ask_call}
 pub use Rattle.mm_store.specs.Calls.{ReadsSlot, WritesSlot}
 pub use Rattle.mm_store.specs.StoreStanding.{StoreStanding}
 pub use Rattle.mm_store.specs.PendingRecord.{PendingRecord, ReadsPendingRecord, pending_spelling}

@@ -1,12 +1,14 @@
 -- One call of either variant.
-use Rattle.std.specs.Prelude.{◌≢◌, ℕ, List, Result, Err, IfOk}
-use Rattle.mm_recovery.specs.Below.{Variant, Standing, One, Meaning, IsFit, Answer, Refusal, Long, IsCallOnCourse, CallLeavesUntouched}
-use Rattle.mm_recovery.specs.Below.{CountsHandedFault, batch_answer_of, batch_result_of, fault_in}
+use Rattle.std.specs.Prelude.{◌≡◌, ◌≢◌, ℕ, false, List, Result, Err, IfOk}
+use Rattle.mm_recovery.specs.Below.{Variant, Standing, One, Meaning, IsFit, Answer, Refusal, Long, is_long, IsAskedCall}
+use Rattle.mm_recovery.specs.Below.{IsCallOnCourse, CallLeavesUntouched, CountsHandedFault, ask_call, batch_answer_of, batch_result_of}
+use Rattle.mm_recovery.specs.Below.{fault_in}
 use Rattle.mm_recovery.specs.CellWrites.{CallWrites}
 
 -- One call, for a request that isn't too long: it goes as a call of the variant does, from any
 -- history; its count of faults rose exactly where it tells of a device; its answer has its sizes;
--- and it is to write the cell for a new request in Basic, in Opt for one that opens a segment.
+-- and it is to write the cell for a new request in Basic, in Opt for one that opens a segment. Its
+-- steps are those of the variant, one after another, of which the last one may have failed.
 pub record IsCall (variant : Variant) (meaning : Meaning) (old new : Standing)
     (offer request : List ℕ)
     (result : Result Answer Refusal) : Type 0 where
@@ -16,3 +18,6 @@ pub record IsCall (variant : Variant) (meaning : Meaning) (old new : Standing)
   pub short : result ≢ Err Long
   pub fits : IfOk result (λ answer. IsFit (One request) (batch_answer_of answer))
   pub counts : CallWrites variant result old new
+  pub limited : is_long (One request) ≡ false
+  pub steps : IsAskedCall (ask_call variant) meaning old new offer (One request)
+      (batch_result_of result)

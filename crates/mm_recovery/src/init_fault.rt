@@ -4,7 +4,7 @@ ghost use Rattle.std.specs.Prelude.{◌≡◌};
 ghost use Rattle.mm_recovery.specs.InitFaults.{init_fault_as};
 ghost use Rattle.mm_recovery.specs.declared.init_fault.InitFault.TheVariants as init_fault;
 
-use mm_base::{Failed, Memory};
+use mm_bytes::{Failed, Memory};
 use mm_platform::StepFault;
 use mm_store::StoreFault;
 use thiserror::Error;

@@ -1,8 +1,8 @@
 //! Asking the next request, with its records in the store.
 
 ghost use Rattle.std.specs.Prelude.{◌≡◌, ◌+◌, ◌≤◌, ◌%◌, IfOk};
-ghost use Rattle.mm_lines.specs.Lines.{IsLineFront};
-ghost use Rattle.mm_base.specs.Limits.{last_position, longest_request};
+ghost use Rattle.mm_base.specs.Lines.{IsLineFront};
+ghost use Rattle.mm_bytes.specs.Limits.{last_position, longest_request};
 ghost use Rattle.mm_store.specs.Calls.{WritesSlot};
 ghost use Rattle.mm_store.specs.PendingRecord.{pending_spelling};
 ghost use Rattle.mm_recovery.specs.Blame.{BlamesHostFault, IsNamed};

@@ -16,7 +16,7 @@ use crate::asking::ask;
 use crate::fault::HostFault;
 use crate::waiting::{WaitingRequest, find_waiting};
 use mm_ask::Caller;
-use mm_base::Bytes;
+use mm_bytes::Bytes;
 use mm_digest::Variant;
 use mm_model::Answer;
 use mm_module::Module;

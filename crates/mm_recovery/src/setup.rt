@@ -2,7 +2,7 @@
 
 ghost use Rattle.std.specs.Prelude.{◌≡◌, ◌<◌, ◌≤◌, ◌+◌, length, take, drop, IfOk};
 ghost use Rattle.std.specs.Io.KnownBytes.{ReadConsumes};
-ghost use Rattle.mm_base.specs.Faults.{CountsFaults};
+ghost use Rattle.mm_bytes.specs.Faults.{CountsFaults};
 ghost use Rattle.mm_seal.specs.Cell.{cell_spelling};
 ghost use Rattle.mm_model.specs.History.{first_history};
 ghost use Rattle.mm_model.specs.Standing.{cell_of, issued_bytes};
@@ -13,10 +13,10 @@ ghost use Rattle.mm_recovery.specs.Init.{devices, LooksAtCell, TakesBytes, taken
 
 use crate::init_fault::InitFault;
 use mm_ask::{Caller, Secrets};
-use mm_base::{CELL_LENGTH, Failed, Memory};
+use mm_base::Source;
+use mm_bytes::{CELL_LENGTH, Failed, Memory};
 use mm_call::Provisioned;
 use mm_digest::Variant;
-use mm_lines::Source;
 use mm_module::Module;
 use mm_platform::{Platform, StepFault};
 use mm_store::{Store, StoreFault};

@@ -7,7 +7,7 @@ ghost use Rattle.mm_store.specs.Records.{pending_of};
 ghost use Rattle.mm_recovery.specs.WaitingRequest.{IsAskable, TakesWaitingRequest, later_record};
 ghost use Rattle.mm_recovery.specs.Resumption.{FindsWaitingRequest};
 
-use mm_base::Bytes;
+use mm_bytes::Bytes;
 use mm_store::{PendingRequest, Store, StoreFault, read_pending};
 use std::alloc::Global;
 use std::marker::Model;

@@ -4,14 +4,14 @@ use Rattle.mm_words.specs.declared.fault.WordsFault.{WordsFault}
 use Rattle.mm_words.specs.declared.fault.WordsFault.TheVariants as words
 use Rattle.mm_app.specs.WordsStatus.{words_status}
 use Rattle.mm_words.specs.Commands.{SpellsCommand}
-use Rattle.mm_app.proofs.Below.{Bulk, Run}
+use Rattle.mm_app.proofs.Below.{Bulk, Checkpoint, Run}
 use Rattle.mm_app.proofs.Blame.{Blamed, Frames, blamed}
 use Rattle.mm_app.proofs.OutputBlame.{output_blamed}
 use Rattle.mm_app.proofs.Completing.{may_be_done}
-use Rattle.mm_app.proofs.Holding.{Holding, spelled, spelled_where, unheld, unspelled, unspelled_where}
+use Rattle.mm_app.proofs.Holding.{Holding, spelled, spelled_where, unheld, unspelled, unspelled_as, unspelled_at, unspelled_where}
 use Rattle.mm_app.proofs.HoldingAll.{holding, much}
 use Rattle.mm_app.proofs.NoUsage.{never_usage}
-use Rattle.mm_app.specs.StatusFacts.{CantRead, FindsBasic, MayBeLost, NeedsInstance, RunsShort, StartsOne}
+use Rattle.mm_app.specs.StatusFacts.{CantRead, FindsBasic, NeedsInstance, RunsShort, StartsOne}
 use Rattle.mm_status.specs.declared.status.Status.TheVariants.{Already, Blank, Cell, Kind, Lost, Refused, Short}
 use Rattle.mm_seal.specs.Cell.{blank_cell}
 use Rattle.std.specs.Prelude.{◌≢◌}
@@ -100,10 +100,10 @@ abbrev words_of : (g : Over) → After-done g → List (List ℕ)
 words_of g c = map (λ s. s.now) c.args.words.now
 
 pub returns-in-Ok-clause-blank : goal.returns-in-Ok-clause-blank
-returns-in-Ok-clause-blank g c cell items told shown =
+returns-in-Ok-clause-blank g c cell visible =
     let it = (goal.at.returns-in-Ok-clause-blank g c).After-done in
     spelled (words_of g it) it.in-Ok.command it.in-Ok.ensures.ok {Is = λ command. NeedsInstance command × (cell ≡ blank_cell)}
-    ((holds g it).blank cell items told shown)
+    ((holds g it).blank cell visible)
 
 pub returns-in-Ok-clause-already : goal.returns-in-Ok-clause-already
 returns-in-Ok-clause-already g c cell told =
@@ -112,9 +112,9 @@ returns-in-Ok-clause-already g c cell told =
     ((holds g it).already cell told)
 
 pub returns-in-Ok-clause-cell : goal.returns-in-Ok-clause-cell
-returns-in-Ok-clause-cell g c cell items told shown =
+returns-in-Ok-clause-cell g c cell visible =
     let it = (goal.at.returns-in-Ok-clause-cell g c).After-done in
-    spelled (words_of g it) it.in-Ok.command it.in-Ok.ensures.ok {Is = CantRead cell} ((holds g it).unread cell items told shown)
+    spelled (words_of g it) it.in-Ok.command it.in-Ok.ensures.ok {Is = CantRead cell} ((holds g it).unread cell visible)
 
 pub returns-in-Ok-clause-kind : goal.returns-in-Ok-clause-kind
 returns-in-Ok-clause-kind g c cell told =
@@ -127,19 +127,30 @@ returns-in-Ok-clause-short g c cell secrets got told left =
     spelled_where (words_of g it) it.in-Ok.command it.in-Ok.ensures.ok {Is = RunsShort cell secrets}
     ((holds g it).short cell secrets got told left)
 
+-- the command that was done is the one that these words spell
+said : (g : Over) (c : After-done g) (command : CommandLine) → SpellsCommand command (words_of g c) → c.in-Ok.command ≡ command
+said g c command spells = one_command (words_of g c) c.in-Ok.command command c.in-Ok.ensures.ok spells
+
 pub returns-in-Ok-clause-lost : goal.returns-in-Ok-clause-lost
-returns-in-Ok-clause-lost g c cell items told shown =
+returns-in-Ok-clause-lost g c cell visible =
     let it = (goal.at.returns-in-Ok-clause-lost g c).After-done in
-    spelled_where (words_of g it) it.in-Ok.command it.in-Ok.ensures.ok {Is = λ command. MayBeLost command it.done.result}
-    ((holds g it).lost cell items told shown)
+    let l = (holds g it).lost cell visible in (
+      λ is. let h = l.only is in ((it.in-Ok.command, h.0, it.in-Ok.ensures.ok), h.1),
+      λ spells. l.closing (said g it Checkpoint spells),
+      λ spells. l.running (said g it Run spells),
+    )
 
 pub returns-in-Ok-clause-refused : goal.returns-in-Ok-clause-refused
-returns-in-Ok-clause-refused g c cell items why told shown =
+returns-in-Ok-clause-refused g c cell why visible =
     let it = (goal.at.returns-in-Ok-clause-refused g c).After-done in
-    let r = (holds g it).refused cell items why told shown in (
-      λ is. let run = r.0 is in ((it.in-Ok.command, run.0, it.in-Ok.ensures.ok), run.1),
-      λ slots waiting input slots_told w left. spelled_where (words_of g it) it.in-Ok.command it.in-Ok.ensures.ok
-          {Is = λ command. command ≡ Run} (r.1 slots waiting input slots_told w left),
+    let r = (holds g it).refused cell why visible in (
+      λ is.
+          let h = r.only is in (
+            subst (λ (command : CommandLine). SpellsCommand command (words_of g it)) h.0 it.in-Ok.ensures.ok,
+            h.1,
+            h.2,
+          ),
+      λ spells. r.running (said g it Run spells),
     )
 
 pub returns-in-Ok-clause-much : goal.returns-in-Ok-clause-much
@@ -189,45 +200,48 @@ stopped_as : (g : Over) (c : After-stopped g) → c.stopped.result ≡ words_sta
 stopped_as g c = c.stopped.ensures.status ∙ c.of_words.ensures
 
 pub returns-in-Err-clause-blank : goal.returns-in-Err-clause-blank
-returns-in-Err-clause-blank g c cell items told shown =
+returns-in-Err-clause-blank g c cell visible =
     let it = (goal.at.returns-in-Err-clause-blank g c).After-stopped in
     unspelled _ it.in-Err.fault it.stopped.result it.in-Err.ensures.usage (stopped_as g it)
     {Is = λ command. NeedsInstance command × (cell ≡ blank_cell)} Blank refl
 
 pub returns-in-Err-clause-already : goal.returns-in-Err-clause-already
-returns-in-Err-clause-already g c cell told =
+returns-in-Err-clause-already g c cell visible =
     let it = (goal.at.returns-in-Err-clause-already g c).After-stopped in
     unspelled _ it.in-Err.fault it.stopped.result it.in-Err.ensures.usage (stopped_as g it)
     {Is = λ command. StartsOne command × (cell ≢ blank_cell)} Already refl
 
 pub returns-in-Err-clause-cell : goal.returns-in-Err-clause-cell
-returns-in-Err-clause-cell g c cell items told shown =
+returns-in-Err-clause-cell g c cell visible =
     let it = (goal.at.returns-in-Err-clause-cell g c).After-stopped in
     unspelled _ it.in-Err.fault it.stopped.result it.in-Err.ensures.usage (stopped_as g it) {Is = CantRead cell} Cell refl
 
 pub returns-in-Err-clause-kind : goal.returns-in-Err-clause-kind
-returns-in-Err-clause-kind g c cell told =
+returns-in-Err-clause-kind g c cell visible =
     let it = (goal.at.returns-in-Err-clause-kind g c).After-stopped in
     unspelled _ it.in-Err.fault it.stopped.result it.in-Err.ensures.usage (stopped_as g it) {Is = FindsBasic cell} Kind refl
 
 pub returns-in-Err-clause-short : goal.returns-in-Err-clause-short
-returns-in-Err-clause-short g c cell secrets got told left =
+returns-in-Err-clause-short g c cell secrets got visible left =
     let it = (goal.at.returns-in-Err-clause-short g c).After-stopped in
     unspelled_where _ it.in-Err.fault it.stopped.result it.in-Err.ensures.usage (stopped_as g it)
     {Is = RunsShort cell secrets} (Short got) refl
 
 pub returns-in-Err-clause-lost : goal.returns-in-Err-clause-lost
-returns-in-Err-clause-lost g c cell items told shown =
-    let it = (goal.at.returns-in-Err-clause-lost g c).After-stopped in
-    unspelled_where _ it.in-Err.fault it.stopped.result it.in-Err.ensures.usage (stopped_as g it)
-    {Is = λ command. MayBeLost command it.stopped.result} Lost refl
+returns-in-Err-clause-lost g c cell visible =
+    let it = (goal.at.returns-in-Err-clause-lost g c).After-stopped in (
+      λ is. absurd (unheld _ it.in-Err.fault it.stopped.result it.in-Err.ensures.usage (stopped_as g it) Lost refl is),
+      λ spells. unspelled_as _ it.in-Err.fault it.stopped.result it.in-Err.ensures.usage (stopped_as g it) Checkpoint Lost refl spells,
+      λ spells slots waiting input slots_told w left.
+          unspelled_at _ it.in-Err.fault it.stopped.result it.in-Err.ensures.usage (stopped_as g it) Run Lost refl spells,
+    )
 
 pub returns-in-Err-clause-refused : goal.returns-in-Err-clause-refused
-returns-in-Err-clause-refused g c cell items why told shown =
+returns-in-Err-clause-refused g c cell why visible =
     let it = (goal.at.returns-in-Err-clause-refused g c).After-stopped in (
       λ is. absurd (unheld _ it.in-Err.fault it.stopped.result it.in-Err.ensures.usage (stopped_as g it) (Refused why) refl is),
-      λ slots waiting input slots_told w left. unspelled_where _ it.in-Err.fault it.stopped.result it.in-Err.ensures.usage (stopped_as g it)
-          {Is = λ command. command ≡ Run} (Refused why) refl,
+      λ spells slots waiting input slots_told w left.
+          unspelled_at _ it.in-Err.fault it.stopped.result it.in-Err.ensures.usage (stopped_as g it) Run (Refused why) refl spells,
     )
 
 pub returns-in-Err-clause-much : goal.returns-in-Err-clause-much

@@ -6,8 +6,9 @@ returns-in-Ok g c =
     let begins = c.in-Ok.ensures.leaves in
     let ran = c.run_rounds.ensures in
     record {
-      secrets = begins.secrets;
       start = two_cells c.start.new.platform;
+      objects = _;
+      begun = begins;
       ran = ran;
       lives = c.commands_keep_promises.ensures.basic c.args.module.now _ _ begins c.tells_cell.ensures.0 ran.commands
           c.tells_cell.ensures.1 ran.run;

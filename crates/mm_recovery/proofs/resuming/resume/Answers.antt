@@ -1,5 +1,6 @@
 use Rattle.mm_recovery.proofs.Recovering.{recovers}
 use Rattle.mm_recovery.proofs.Exits.{resumes_came, resumes_told}
+use Rattle.mm_recovery.proofs.Sizes.{resumes_sized}
 use Rattle.mm_recovery.proofs.resuming.resume.Goals as goal
 
 pub returns-clause-faults : goal.returns-clause-faults
@@ -15,3 +16,6 @@ returns-clause-recovers g c =
 
 pub returns-clause-writes : goal.returns-clause-writes
 returns-clause-writes g c = (resumes_came _ _ _ _ _ c.resume_by_steps.ensures).counts
+
+pub returns-clause-sized : goal.returns-clause-sized
+returns-clause-sized g c = resumes_sized _ _ _ _ _ c.resume_by_steps.ensures

@@ -1,0 +1,259 @@
+-- What may be relied on in any life.
+use Rattle.std.specs.List.{AllByRecursion}
+use Rattle.std.proofs.Common.{◌≡◌, ◌≢◌, ◌∙◌, ◌⊎◌, ◌+◌, ◌-◌, ◌≤◌, ℕ, Bool, true, false, List, [], ◌∷◌, ◌++◌, length, take, Option, None, Some, Result, Ok, Err}
+use Rattle.std.proofs.Common.{refl, sym, ap, inl, inr, subst, arith, append_assoc, length-append}
+use Rattle.std.proofs.lemmas.List.{append-nil}
+use Rattle.std.proofs.Math.Seq.{take-append_seam}
+use Rattle.mm_client.proofs.Below.{last_bytes_in}
+use Rattle.mm_client.proofs.Below.{Variant, Meaning, One, Standing, Answer, Refusal, Resumed, Start, Answered, PendingRecord, each_append, state_after}
+use Rattle.mm_client.proofs.Below.{IsBatchStep, Told, answer_reply, CallSteps, LifeFollows, PartSteps, SessionSteps, Calls, Checkpoints, Extends, LosesPower}
+use Rattle.mm_client.proofs.Below.{Does, Holds, IsLife, LifePart, LifeStage, PartLeads, end_of, Program, session_on, ServedCall, CallsRunOver, HasUntoldRequest}
+use Rattle.mm_client.proofs.Below.{IsSession, SessionStanding, host_of, SessionFault, SessionGoesAfterResume, BytesBeginWith, TurnGoes, turn_answer_of, lines_of}
+use Rattle.mm_client.proofs.Below.{HostGoesAfterFinding, IsUnbroken, joined_lines, first_served_call, served_calls_in, served_calls_of, served_lines, found_record, IsInHand, IsInHandOf, replies_to, reply_text}
+use Rattle.mm_client.specs.declared.heard.HeardReply.{HeardReply}
+use Rattle.mm_client.specs.AnyLife.{AskingTells, OwnOutputsTell, RepliesTellRequests, SessionsSendReplies, TellsSince, WholeSessionsTellAll}
+use Rattle.mm_client.specs.AnyLife.{answer_told, life_told, part_told}
+use Rattle.mm_client.specs.ClientLife.{replies_of}
+use Rattle.mm_client.specs.ServedOnce.{IsTrueReply}
+use Rattle.mm_client.proofs.Beginning.{Began, answers, at_start, found}
+use Rattle.mm_client.proofs.Giving.{LinesGo, lines_go, next_line, served_unbroken}
+use Rattle.mm_client.proofs.OneSession.{none_served}
+use Rattle.mm_client.proofs.Positions.{call_positive, session_positive}
+use Rattle.mm_client.proofs.Replies.{all_true_on, runs_grow, step_grows, step_true, told_true}
+
+abbrev pub IsGrown : List (List ℕ) → List (List ℕ) → Type 0
+IsGrown requests after = (more : List (List ℕ)) × (requests ++ more ≡ after)
+
+same_grown : (requests after : List (List ℕ)) → after ≡ requests → IsGrown requests after
+same_grown requests after e = ([], append-nil requests ∙ sym e)
+
+grown_then : (a b c : List (List ℕ)) → IsGrown a b → IsGrown b c → IsGrown a c
+grown_then a b c x y = (x.0 ++ y.0, sym (append_assoc a x.0 y.0) ∙ ap (λ (xs : List (List ℕ)). xs ++ y.0) x.1 ∙ y.1)
+
+committed_grown : (hand : List ℕ → Type 0) (result : Result Unit SessionFault) (between after : List (List ℕ))
+    → (after ≡ between) ⊎ HasUntoldRequest hand result between after → IsGrown between after
+committed_grown hand result between after (inl same) = same_grown between after same
+committed_grown hand result between after (inr u) = (u.request ∷ [], sym u.grown)
+
+-- a part grows the list, and what it tells is true of it
+pub record PartTells (meaning : Meaning) (requests after : List (List ℕ)) (told : List HeardReply) : Type 0 where
+  pub grown : IsGrown requests after
+  pub trues : AllByRecursion (IsTrueReply meaning after) told
+
+module _ (variant : Variant) (meaning : Meaning) where
+  call_tells : (old new : Standing) (offer request : List ℕ) (gives : Result Answer Refusal) (requests after : List (List ℕ))
+      → ((answer : Answer) → gives ≡ Ok answer → 1 ≤ answer.position) → CallSteps meaning requests request gives after
+      → PartTells meaning requests after (answer_told gives)
+  call_tells old new offer request (Ok answer) requests after least s = record {
+    grown = step_grows meaning answer.again requests after request (answer.position - 1) (answer.output ∷ []) s;
+    trues = (step_true meaning answer.again requests after request answer.output answer.position (least answer refl) s, tt);
+  }
+  call_tells old new offer request (Err why) requests after least (inl same) = record { grown = same_grown requests after same; trues = tt }
+  call_tells old new offer request (Err why) requests after least (inr u) = record { grown = (request ∷ [], sym u.1); trues = tt }
+
+  pub part_tells : (old : Standing) (part : LifePart) (new : Standing) (f : PartLeads variant meaning old part new)
+      (requests after : List (List ℕ)) → PartSteps variant meaning old part new f requests after
+      → PartTells meaning requests after (part_told variant meaning old part new f)
+  part_tells old (Holds p) new f requests after s =
+      let told : List ServedCall = served_calls_of f in
+      let grown = committed_grown (IsInHandOf f) p.result s.between after s.committed in
+      record {
+        grown = grown_then requests s.between after (runs_grow meaning told requests s.between s.run) grown;
+        trues = all_true_on meaning s.between grown.0 after (replies_of told) grown.1
+            (told_true meaning told requests s.between (session_positive variant meaning f (found_record f.resumes.waiting) f.goes) s.run);
+      }
+  part_tells old (Does (Calls c)) new f requests after s =
+      call_tells old new c.offer c.request c.gives requests after
+      (λ answer e. call_positive variant meaning old new c.offer c.request c.gives answer f e) s
+  part_tells old (Does (Extends values)) new f requests after s = record { grown = same_grown requests after s; trues = tt }
+  part_tells old (Does LosesPower) new f requests after s = record { grown = same_grown requests after s; trues = tt }
+  part_tells old (Does (Checkpoints said)) new f requests after s = record { grown = same_grown requests after s; trues = tt }
+
+  life_tells : (stages : List LifeStage) (start : Standing) (f : IsLife variant meaning start stages) (requests after : List (List ℕ))
+      → LifeFollows variant meaning start stages f requests after
+      → PartTells meaning requests after (life_told variant meaning start stages f)
+  life_tells [] start f requests after l = record { grown = same_grown requests after l; trues = tt }
+  life_tells (stage ∷ stages) start f requests after l =
+      let here = part_tells start stage.part stage.after f.0 requests l.0 l.1 in
+      let rest = life_tells stages stage.after f.1 l.0 after l.2 in
+      record {
+        grown = grown_then requests l.0 after here.grown rest.grown;
+        trues = each_append (IsTrueReply meaning after) (part_told variant meaning start stage.part stage.after f.0)
+            (life_told variant meaning stage.after stages f.1)
+            (all_true_on meaning l.0 rest.grown.0 after (part_told variant meaning start stage.part stage.after f.0) rest.grown.1
+            here.trues)
+            rest.trues;
+      }
+
+pub replies_tell : RepliesTellRequests
+replies_tell variant meaning start stages f before after l = (life_tells variant meaning stages start f before after l).trues
+
+pub own_outputs_tell : OwnOutputsTell
+own_outputs_tell meaning requests reply own t is_own = record {
+  before = t.before;
+  later = t.later;
+  stands =
+      t.stands ∙ ap (λ (r : List ℕ). t.before ++ r ∷ t.later) (is_own t.before t.request t.later t.stands (sym t.says));
+  at = t.position;
+}
+
+-- A session without a line.
+
+none_more : (known more after : List (List ℕ)) → known ++ more ≡ after → length after ≤ length known → after ≡ known
+none_more known [] after e few = sym e ∙ append-nil known
+none_more known (x ∷ more) after e few =
+    absurd (omega (
+      arith,
+      few,
+      ap (λ (xs : List (List ℕ)). length xs) e,
+      length-append known (x ∷ more),
+    ))
+
+same_front : (a b c d : List (List ℕ)) → length a ≡ length b → a ++ c ≡ b ++ d → a ≡ b
+same_front a b c d size e =
+    sym (take-append_seam a c) ∙ ap (λ (xs : List (List ℕ)). take (length a) xs) e
+    ∙ ap (λ (n : ℕ). take n (b ++ d)) size ∙ take-append_seam b d
+
+-- how a step ends
+record StepEnds (meaning : Meaning) (line : List ℕ) (position : ℕ) (output : List ℕ) (after : List (List ℕ)) : Type 0 where
+  earlier : List (List ℕ)
+  is : after ≡ earlier ++ line ∷ []
+  counted : position - 1 ≡ length earlier
+  says : output ≡ meaning.says (state_after meaning earlier) line
+
+step_ends : (meaning : Meaning) (again : Bool) (requests after : List (List ℕ)) (line output : List ℕ) (position : ℕ)
+    → IsBatchStep meaning requests (One line) (Told again (position - 1) (output ∷ [])) after → StepEnds meaning line position output after
+step_ends meaning false requests after line output position s =
+    record { earlier = requests; is = s.grown; counted = s.counted; says = let said = s.said in cc }
+step_ends meaning true requests after line output position s =
+    record { earlier = s.0; is = s.2 ∙ s.1.grown; counted = s.1.counted; says = let said = s.1.said in cc }
+
+tells_since : (meaning : Meaning) (known requests after : List (List ℕ)) (c : ServedCall) → 1 ≤ c.answer.position
+    → IsGrown known requests → IsBatchStep meaning requests (One c.line) (answer_reply c.answer) after → TellsSince meaning known after c
+tells_since meaning known requests after c least k s =
+    let e = step_ends meaning c.answer.again requests after c.line c.answer.output c.answer.position s in
+    let grown = grown_then known requests after k
+    (step_grows meaning c.answer.again requests after c.line (c.answer.position - 1) (c.answer.output ∷ []) s) in
+    let size : length after ≡ length e.earlier + 1 =
+    ap (λ (xs : List (List ℕ)). length xs) e.is ∙ length-append e.earlier (c.line ∷ []) in
+    record {
+      number = omega (arith, e.counted, size, least);
+      none_since = λ few. none_more known grown.0 after grown.1 (omega (arith, e.counted, size, least, few));
+      one_since = λ one.
+          let same : e.earlier ≡ known =
+          same_front e.earlier known (c.line ∷ []) grown.0 (omega (arith, e.counted, one)) (sym e.is ∙ sym grown.1) in (
+            e.is ∙ ap (λ (xs : List (List ℕ)). xs ++ c.line ∷ []) same,
+            e.says ∙ ap (λ (xs : List (List ℕ)). meaning.says (state_after meaning xs) c.line) same,
+          );
+    }
+
+module _ {variant : Variant} {meaning : Meaning} {old new : SessionStanding} {result : Result Unit SessionFault}
+    (s : IsSession variant meaning old new result) (w : Option PendingRecord) where
+  abbrev Goes : Type 0
+  Goes = SessionGoesAfterResume variant meaning s.begun s.middle (host_of new) new.left s.taken s.sent result
+
+  one_told : (x : Option PendingRecord) (first : Resumed) (calls : List ServedCall) → calls ≡ []
+      → (first_served_call x first ++ calls ≡ []) ⊎ ((c : ServedCall) × (first_served_call x first ++ calls ≡ c ∷ []))
+  one_told None first calls none = inl none
+  one_told (Some p) (Start bytes) calls none = inl none
+  one_told (Some p) (Answered answer) calls none =
+      let c : ServedCall = record { line = p.request; answer = answer } in inr (c, ap (λ (cs : List ServedCall). c ∷ cs) none)
+
+  asked_tells : (goes : Goes) (known requests after : List (List ℕ)) → IsGrown known requests
+      → SessionSteps meaning requests (served_calls_in w goes) (IsInHand w goes) (last_bytes_in goes) result after → old.left ≡ Some []
+      → (served_calls_in w goes ≡ [])
+      ⊎ ((c : ServedCall) × (served_calls_in w goes ≡ c ∷ []) × TellsSince meaning known after c)
+  asked_tells (inl e) known requests after k steps left = inl refl
+  asked_tells (inr g) known requests after k steps left =
+      let served : List (List ℕ) = served_lines g.lines.calls in
+      let go : LinesGo [] old.left new.left served g.lines.more =
+      lines_go [] served old.left new.left s.taken g.lines.more tt
+      (served_unbroken variant meaning g.lines.calls (record { host = s.middle; last = g.first }) g.lines.at g.lines.serves)
+      (record { bytes = []; lost = []; told = left; front = refl }) s.consumed g.lines.took in
+      let none : g.lines.calls ≡ [] = none_served g.lines.calls (lines_of (g.lines.more ++ go.behind)) go.are in
+      let same : after ≡ steps.between = elim steps.committed [
+        | inl is ↦ is
+        | inr u ↦
+            let hand = u.in_hand in
+            let next = next_line g.lines.more u.request hand.0 go.behind hand.1.cut hand.1.within.unbroken in
+            let few = ap (λ (xs : List (List ℕ)). length xs) (go.are ∙ ap (λ (xs : List (List ℕ)). served ++ xs) next) in
+            absurd (omega (arith, few, length-append served (u.request ∷ lines_of (hand.0 ++ go.behind))))
+      ] in
+      elim (one_told w g.first g.lines.calls none) [
+        | inl nothing ↦ inl nothing
+        | inr one ↦
+            let run = subst (λ (cs : List ServedCall). CallsRunOver meaning requests cs steps.between) one.1 steps.run in
+            let positive = subst (λ (cs : List ServedCall). AllByRecursion (λ (c : ServedCall). 1 ≤ c.answer.position) cs) one.1
+            (session_positive variant meaning s w (inr g)) in
+            inr (
+              one.0,
+              one.1,
+              tells_since meaning known requests after one.0 positive.0 k
+                  (subst (λ (xs : List (List ℕ)). IsBatchStep meaning requests (One (one.0).line) (answer_reply (one.0).answer) xs)
+                  (sym run.2 ∙ sym same) run.1),
+            )
+      ]
+
+  whole_told : (goes : Goes) (lines : List (List ℕ)) → AllByRecursion IsUnbroken lines
+      → old.left ≡ Some (joined_lines lines) → result ≡ Ok tt
+      → (served_lines (served_calls_in w goes) ≡ lines)
+      ⊎ ((first : List ℕ) × (served_lines (served_calls_in w goes) ≡ first ∷ lines))
+  whole_told (inl e) lines unbroken left ended = let is = e.1.stops in absurd (cc)
+  whole_told (inr g) lines unbroken left ended =
+      let served : List (List ℕ) = served_lines g.lines.calls in
+      let go : LinesGo lines old.left new.left served g.lines.more =
+      lines_go lines served old.left new.left s.taken g.lines.more unbroken
+      (served_unbroken variant meaning g.lines.calls (record { host = s.middle; last = g.first }) g.lines.at g.lines.serves)
+      (record { bytes = joined_lines lines; lost = []; told = left; front = append-nil _ }) s.consumed
+      g.lines.took in
+      let e = subst (λ (r : Result Unit SessionFault).
+      TurnGoes variant meaning (length g.lines.calls + 1) g.lines.at (host_of new) new.left g.lines.more [] g.lines.last
+      (turn_answer_of r)) ended g.lines.ends in
+      behind_first w g.first g.lines.calls lines (sym (go.all left e.2 e.1))
+    where
+      behind_first : (x : Option PendingRecord) (first : Resumed) (calls : List ServedCall) (lines : List (List ℕ))
+          → served_lines calls ≡ lines → (served_lines (first_served_call x first ++ calls) ≡ lines)
+          ⊎ ((one : List ℕ) × (served_lines (first_served_call x first ++ calls) ≡ one ∷ lines))
+      behind_first None first calls lines e = inl e
+      behind_first (Some p) (Start bytes) calls lines e = inl e
+      behind_first (Some p) (Answered answer) calls lines e =
+          inr (p.request, ap (λ (xs : List (List ℕ)). p.request ∷ xs) e)
+
+pub asking_tells : AskingTells
+asking_tells variant meaning start stages f asking end s known requests after l steps left =
+    asked_tells s (found_record s.resumes.waiting) s.goes known requests after
+    (life_tells variant meaning stages start f known requests l).grown steps left
+
+pub whole_sessions_tell : WholeSessionsTellAll
+whole_sessions_tell variant meaning old new result s lines unbroken left ended =
+    whole_told s (found_record s.resumes.waiting) s.goes lines unbroken left ended
+
+-- what was sent for what waited, and then for the lines
+pub first_sent : (w : Option PendingRecord) (first : Resumed) (calls : List ServedCall) (sent replies last : List ℕ) → Began w first
+    → sent ≡ reply_text (Ok first) ++ replies → replies ≡ replies_to calls ++ last
+    → sent ≡ replies_to (first_served_call w first ++ calls) ++ last
+first_sent None (Start bytes) calls sent replies last b e r = e ∙ r
+first_sent (Some p) (Answered answer) calls sent replies last b e r =
+    e ∙ ap (λ (x : List ℕ). reply_text (Ok (Answered answer)) ++ x) r
+    ∙ sym (append_assoc (reply_text (Ok (Answered answer))) (replies_to calls) last)
+first_sent None (Answered answer) calls sent replies last (at_start n bytes is) e r = absurd (cc)
+first_sent None (Answered answer) calls sent replies last (answers p n a is) e r = absurd (cc)
+first_sent (Some p) (Start bytes) calls sent replies last (at_start n b is) e r = absurd (cc)
+first_sent (Some p) (Start bytes) calls sent replies last (answers q n a is) e r = absurd (cc)
+
+goes_sent : {variant : Variant} {meaning : Meaning} {old new : SessionStanding} {result : Result Unit SessionFault}
+    (s : IsSession variant meaning old new result)
+    (goes : SessionGoesAfterResume variant meaning s.begun s.middle (host_of new) new.left s.taken s.sent result)
+    → s.sent ≡ replies_to (served_calls_in (found_record s.resumes.waiting) goes) ++ last_bytes_in goes
+goes_sent s (inl e) = refl
+goes_sent {variant} {meaning} {old} s (inr g) =
+    let f = found variant meaning s.resumes.waiting (record (host_of old) { kept = s.resumes.middle }) s.middle g.first
+    (subst (λ x. HostGoesAfterFinding variant meaning s.resumes.waiting
+    (record (host_of old) { kept = s.resumes.middle }) s.middle x) g.begins s.resumes.goes) in
+    let same : found_record s.resumes.waiting ≡ f.0 = ap found_record f.1 in
+    first_sent (found_record s.resumes.waiting) g.first g.lines.calls s.sent g.replies g.lines.last
+    (subst (λ (x : Option PendingRecord). Began x g.first) (sym same) f.2)
+    (g.wrote ∙ ap (λ x. reply_text x ++ g.replies) g.begins) g.lines.wrote
+
+pub sessions_send : SessionsSendReplies
+sessions_send variant meaning old new result s = goes_sent s s.goes

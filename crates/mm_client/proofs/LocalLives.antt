@@ -1,0 +1,219 @@
+-- The sessions that a client had held by a program are a life of a client over one store.
+use Rattle.std.specs.List.{AllByRecursion}
+use Rattle.std.proofs.Common.{◌≡◌, ◌∙◌, ◌+◌, ◌≤◌, ℕ, List, [], ◌∷◌, ◌++◌, length, drop, take, Some, refl, sym, ap, inl, inr, subst, arith}
+use Rattle.std.proofs.Common.{Option, Result}
+use Rattle.std.proofs.lemmas.List.{take-append-drop}
+use Rattle.mm_bytes.specs.Limits.{last_position}
+use Rattle.mm_base.specs.Input.{joined_lines}
+use Rattle.mm_host.specs.SessionStanding.{session_standing}
+use Rattle.mm_host.specs.Sessions.{IsSession}
+use Rattle.mm_host.specs.declared.fault.SessionFault.{SessionFault}
+use Rattle.mm_module.specs.Meaning.{IsLawful}
+use Rattle.mm_recovery.specs.FirstStart.{InstanceBegins}
+use Rattle.mm_recovery.specs.Init.{Devices, host_among}
+use Rattle.mm_life.specs.HonestLife.{GoesOnFrom}
+use Rattle.mm_life.specs.Stages.{program_standing, session_stage}
+use Rattle.mm_client.proofs.Below.{AreNoChance, Basic, Batch, Does, Holds, HostStanding, Instance, IsGoneOnWith, IsLife, IsOverOneStore, LifePart}
+use Rattle.mm_client.proofs.Below.{LifeStage, Meaning, Opt, PartGoesOn, PartLeads, Standing, StoreStanding, Variant, each_left, each_right, end_of}
+use Rattle.mm_client.proofs.Below.{store_at_end}
+use Rattle.mm_client.specs.AnyLife.{life_told, part_told}
+use Rattle.mm_client.specs.ClientLife.{AreNoOthers, IsClientLife}
+use Rattle.mm_client.specs.Hearing.{ClientMemory, Hearing, lines_to_give, memory_after, memory_at}
+use Rattle.mm_client.specs.Laws.{BasicClientsAreServedOnce, OptClientsAreServedOnce}
+use Rattle.mm_client.specs.LocalLife.{HearsOutput, HoldsSession, KeepStore, LocalStanding, ServesLocalClient}
+use Rattle.mm_client.specs.Rounds.{AreRounds}
+use Rattle.mm_client.proofs.AnyLives.{replies_tell}
+use Rattle.mm_client.proofs.HeardTold.{IsReadable}
+use Rattle.mm_client.proofs.Hearings.{heard_so, readable}
+
+-- seen another way
+pub rounds_on : {S T : Type 0} (view : S → T) (holds : S → S → List (List ℕ) → Hearing → Type 0)
+    (holds_so : T → T → List (List ℕ) → Hearing → Type 0)
+    → ((old new : S) (lines : List (List ℕ)) (heard : Hearing) → holds old new lines heard → holds_so (view old) (view new) lines heard)
+    → (base : ℕ) (wanted : List (List ℕ)) (hearings : List Hearing) (old new : S) (before after : ClientMemory)
+    → AreRounds holds base wanted old hearings before new after
+    → AreRounds holds_so base wanted (view old) hearings before (view new) after
+rounds_on view holds holds_so so base wanted [] old new before after r = (ap view r.0, r.1)
+rounds_on view holds holds_so so base wanted (heard ∷ hearings) old new before after r = (
+  view r.0,
+  so old r.0 (lines_to_give base wanted before) heard r.1,
+  rounds_on view holds holds_so so base wanted hearings r.0 new (memory_after before heard) after r.2,
+)
+
+-- the stages of such sessions
+pub record LocalStages (variant : Variant) (meaning : Meaning) (wanted : List (List ℕ)) (old new : HostStanding)
+    (before after : ClientMemory) (rounds : ℕ) : Type 0 where
+  pub stages : List LifeStage
+  pub count : length stages ≡ rounds
+  pub life : IsLife variant meaning old.standing stages
+  pub over : IsOverOneStore old.kept stages
+  pub ends : end_of old.standing stages ≡ new.standing
+  pub left : store_at_end old.kept stages ≡ new.kept
+  pub chance : KeepStore stages → AreNoChance variant meaning old.standing stages life
+  pub others : KeepStore stages → AreNoOthers variant meaning old.standing stages life
+  pub client : AllByRecursion IsReadable (life_told variant meaning old.standing stages life)
+      → IsClientLife 0 wanted variant meaning old.standing stages life before after
+
+abbrev stage_of : {old new : LocalStanding} {lines : List (List ℕ)} {heard : Hearing} → HoldsSession old new lines heard → LifeStage
+stage_of {old} {new} h =
+    session_stage (program_standing old.host.kept (Some h.given) (Some [])) (program_standing new.host.kept h.left (Some h.output))
+    h.result new.host.standing
+
+one_more : (wanted : List (List ℕ)) (old middle : LocalStanding) (new : HostStanding) (before after : ClientMemory) (heard : Hearing)
+    (rounds : ℕ) → (h : HoldsSession old middle (lines_to_give 0 wanted before) heard)
+    → LocalStages old.variant old.meaning wanted middle.host new (memory_after before heard) after rounds
+    → (most : ℕ) → most ≡ rounds + 1
+    → LocalStages old.variant old.meaning wanted old.host new before after most
+one_more wanted old middle new before after heard rounds h t most size = record {
+  stages = stage_of h ∷ t.stages;
+  count = omega (arith, t.count, size);
+  life = (h.session, t.life);
+  over = ((refl, refl), t.over);
+  ends = t.ends;
+  left = t.left;
+  chance = λ kept. ((λ is waiting waits slots told. absurd (kept.0 is)), t.chance kept.1);
+  others = λ kept. ((λ is waiting waits next there at. absurd (kept.0 is)), t.others kept.1);
+  client = λ all. (
+    memory_after before heard,
+    record {
+      given = h.cut;
+      hearing = heard;
+      heard = heard_so h.session h.output heard h.session.appended h.hears
+          (each_left IsReadable (part_told old.variant old.meaning old.host.standing (stage_of h).part middle.host.standing h.session)
+          (life_told old.variant old.meaning middle.host.standing t.stages t.life) all);
+      remembers = refl;
+    },
+    t.client (each_right IsReadable
+        (part_told old.variant old.meaning old.host.standing (stage_of h).part middle.host.standing h.session)
+        (life_told old.variant old.meaning middle.host.standing t.stages t.life) all),
+  );
+}
+
+pub local_stages : (wanted : List (List ℕ)) (hearings : List Hearing) (old new : LocalStanding) (before after : ClientMemory)
+    → AreRounds HoldsSession 0 wanted old hearings before new after
+    → LocalStages old.variant old.meaning wanted old.host new.host before after (length hearings)
+local_stages wanted [] old new before after r = record {
+  stages = [];
+  count = refl;
+  life = tt;
+  over = tt;
+  ends = sym (ap (λ (x : LocalStanding). x.host.standing) r.0);
+  left = sym (ap (λ (x : LocalStanding). x.host.kept) r.0);
+  chance = λ kept. tt;
+  others = λ kept. tt;
+  client = λ all. r.1;
+}
+local_stages wanted (heard ∷ hearings) old new before after r =
+    let middle : LocalStanding = r.0 in
+    let h = r.1 in
+    one_more wanted old middle new.host before after heard (length hearings) h
+    (subst (λ (m : Meaning). LocalStages old.variant m wanted middle.host new.host (memory_after before heard) after (length hearings))
+    h.meaning
+    (subst (λ (v : Variant). LocalStages v middle.meaning wanted middle.host new.host (memory_after before heard) after (length hearings))
+    h.variant (local_stages wanted hearings middle new (memory_after before heard) after r.2)))
+    (length (heard ∷ hearings)) (omega arith)
+
+-- all that is told on an honest store can be read again
+
+part_room : (all others : List (List ℕ)) (asked : List Batch) (i : Instance) (old : Standing) (part : LifePart) (new : Standing)
+    (f : PartLeads i.variant i.meaning old part new) (requests after : List (List ℕ))
+    → PartGoesOn all others asked i old part new f requests after → length requests ≤ last_position → length after ≤ last_position
+part_room all others asked i old (Holds p) new f requests after goes room = goes.2.room
+part_room all others asked i old (Does deed) new f requests after goes room =
+    omega (arith, ap (λ (xs : List (List ℕ)). length xs) goes, room)
+
+room_at_end : (all others : List (List ℕ)) (asked : List Batch) (i : Instance) (stages : List LifeStage) (start : Standing)
+    (f : IsLife i.variant i.meaning start stages) (requests after : List (List ℕ))
+    → GoesOnFrom all others asked i start stages f requests after → length requests ≤ last_position → length after ≤ last_position
+room_at_end all others asked i [] start f requests after goes room = omega (arith, ap (λ (xs : List (List ℕ)). length xs) goes, room)
+room_at_end all others asked i (stage ∷ stages) start f requests after goes room =
+    room_at_end all others asked i stages stage.after f.1 goes.0 after goes.2
+    (part_room all others asked i start stage.part stage.after f.0 requests goes.0 goes.1 room)
+
+told_readable : {all others : List (List ℕ)} {asked : List Batch} {i : Instance} {kept : StoreStanding} {start : Standing}
+    {stages : List LifeStage} {f : IsLife i.variant i.meaning start stages} → IsLawful i.meaning
+    → IsGoneOnWith all others asked i kept start stages f
+    → AllByRecursion IsReadable (life_told i.variant i.meaning start stages f)
+told_readable {all = all} {others = others} {asked = asked} {i = i} {start = start} {stages = stages} {f = f} lawful gone =
+    readable i.meaning lawful gone.after (room_at_end all others asked i stages start f [] gone.after gone.goes (omega arith))
+    (life_told i.variant i.meaning start stages f) (replies_tell i.variant i.meaning start stages f [] gone.after gone.follows)
+
+pub serves_local : BasicClientsAreServedOnce → OptClientsAreServedOnce → (variant : Variant) (meaning : Meaning) → IsLawful meaning
+    → (old started : Devices) → InstanceBegins variant meaning old started → (new : HostStanding) (wanted : List (List ℕ)) (rounds : ℕ)
+    (client : ClientMemory) → LocalStages variant meaning wanted (host_among started) new (memory_at 0) client rounds
+    → ServesLocalClient variant meaning old new wanted rounds client
+serves_local basic opt Basic meaning lawful old started begun new wanted rounds client t = record {
+  started = started;
+  begun = begun;
+  stages = t.stages;
+  count = t.count;
+  life = t.life;
+  over = t.over;
+  ends = t.ends;
+  left = t.left;
+  serves = λ cell values slots here shown honest told kept unbroken.
+      elim (basic meaning lawful (take 32 begun.secrets) started.platform started.store t.stages t.life wanted
+      (begun.stands cell [] here refl) (begun.honest ∙ honest) (begun.stores slots honest told) t.over (t.chance kept) (t.others kept)
+      unbroken) [
+        | inl served ↦ inl (t.client (told_readable lawful served.gone), served)
+        | inr clash ↦ inr clash
+      ];
+}
+serves_local basic opt Opt meaning lawful old started begun new wanted rounds client t = record {
+  started = started;
+  begun = begun;
+  stages = t.stages;
+  count = t.count;
+  life = t.life;
+  over = t.over;
+  ends = t.ends;
+  left = t.left;
+  serves = λ cell values slots here shown honest told kept unbroken.
+      elim (opt meaning lawful (take 32 begun.secrets) (drop 32 begun.secrets) values started.platform started.store t.stages t.life
+      wanted (begun.stands cell values here shown) (begun.honest ∙ honest) (begun.stores slots honest told) t.over (t.chance kept)
+      (t.others kept) unbroken) [
+        | inl served ↦ inl (t.client (told_readable lawful served.gone), served)
+        | inr clash ↦ inr clash
+      ];
+}
+
+-- as its sessions were held
+pub serves_rounds : BasicClientsAreServedOnce → OptClientsAreServedOnce → (variant : Variant) (meaning : Meaning) → IsLawful meaning
+    → (old started : Devices) → InstanceBegins variant meaning old started → (new : LocalStanding) (wanted : List (List ℕ))
+    (hearings : List Hearing) (rounds : ℕ) (client : ClientMemory) → length hearings ≡ rounds
+    → AreRounds HoldsSession 0 wanted (record { variant = variant; meaning = meaning; host = host_among started }) hearings (memory_at 0)
+    new client
+    → ServesLocalClient variant meaning old new.host wanted rounds client
+serves_rounds basic opt variant meaning lawful old started begun new wanted hearings rounds client count r =
+    serves_local basic opt variant meaning lawful old started begun new.host wanted rounds client
+    (subst (λ (n : ℕ). LocalStages variant meaning wanted (host_among started) new.host (memory_at 0) client n) count
+    (local_stages wanted hearings (record { variant = variant; meaning = meaning; host = host_among started }) new (memory_at 0) client r))
+
+-- a session over the bytes that come in
+pub holds_so : (variant : Variant) (meaning : Meaning) (old new : HostStanding) (lines : List (List ℕ)) (heard : Hearing)
+    (text given : List ℕ) (count : ℕ) (left left' received : Option (List ℕ)) (output told : List ℕ) (result : Result Unit SessionFault)
+    → text ≡ joined_lines lines → given ≡ take count text → left ≡ Some given → received ≡ Some [] → told ≡ output
+    → IsSession variant meaning (session_standing old.standing old.kept left received)
+    (session_standing new.standing new.kept left' (Some output)) result → HearsOutput told result heard
+    → HoldsSession (record { variant = variant; meaning = meaning; host = old })
+    (record { variant = variant; meaning = meaning; host = new }) lines heard
+holds_so variant meaning old new lines heard text given count left left' received output told result is front left_is received_is same
+    s h = record {
+      variant = refl;
+      meaning = refl;
+      given = given;
+      cut = record {
+        bytes = given;
+        lost = drop count text;
+        told = refl;
+        front = ap (λ (bytes : List ℕ). bytes ++ drop count text) front ∙ take-append-drop count text ∙ is;
+      };
+      left = left';
+      output = output;
+      result = result;
+      session = subst (λ (r : Option (List ℕ)). IsSession variant meaning (session_standing old.standing old.kept (Some given) r)
+          (session_standing new.standing new.kept left' (Some output)) result) received_is
+          (subst (λ (l : Option (List ℕ)). IsSession variant meaning (session_standing old.standing old.kept l received)
+          (session_standing new.standing new.kept left' (Some output)) result) left_is s);
+      hears = subst (λ (bytes : List ℕ). HearsOutput bytes result heard) same h;
+    }

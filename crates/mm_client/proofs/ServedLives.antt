@@ -1,0 +1,173 @@
+-- A life of a client over an honest store, part after part: he is served once.
+use Rattle.std.specs.List.{AllByRecursion}
+use Rattle.std.proofs.Common.{◌≡◌, ◌≢◌, ◌∙◌, ◌⊎◌, ◌+◌, ◌≤◌, ℕ, true, List, [], ◌∷◌, ◌++◌, length, Option, None, Some, Result, Ok, Err, refl, sym, ap, inl}
+use Rattle.std.proofs.Common.{arith, inr, subst}
+use Rattle.mm_client.proofs.Below.{last_bytes_in}
+use Rattle.mm_client.proofs.Below.{Batch, Variant, Meaning, IsUnbroken, last_position, Store, Standing, StoreStanding, Slots, PendingRecord, Instance, joined_lines}
+use Rattle.mm_client.proofs.Below.{IsSession, ServedCall, SessionStanding, host_of, SessionFault, Host, SessionGoesAfterResume, first_served_call, served_calls_in}
+use Rattle.mm_client.proofs.Below.{IsInHand, found_record, served_calls_of, AreToldOnce, IsNotBeyond, IsNextOrLast, WaitsInSlots, SessionSteps, reached_position}
+use Rattle.mm_client.proofs.Below.{Does, Holds, IsLife, LifePart, LifeStage, PartLeads, Program, session_on, GoesOnOver, LeavesNoChance, PartGoesOn}
+use Rattle.mm_life.specs.HonestLife.{AreNoChance, BeginsOver, GoesOnFrom, IsOverOneStore, store_at_end, store_behind}
+use Rattle.mm_client.specs.Hearing.{ClientMemory, Hearing, lines_to_give, memory_after}
+use Rattle.mm_client.specs.ClientLife.{AreNoOthers, IsClientLife, IsClientPart, IsClientSession, IsGiven, IsHeard, LeavesNoOther}
+use Rattle.mm_client.specs.ServedOnce.{IsServedFrom, PartMakesAll}
+use Rattle.mm_client.proofs.Beginning.{begins}
+use Rattle.mm_client.proofs.GoingOn as going
+use Rattle.mm_client.proofs.OneSession.{Stands, same_waits, stopped}
+use Rattle.mm_client.proofs.Trace.{resumed_so}
+
+-- what stands behind a part, and whether all was made
+pub record Behind (meaning : Meaning) (list : List (List ℕ)) (base : ℕ) (wanted : List (List ℕ)) (kept : StoreStanding) (part : LifePart)
+    (after : List (List ℕ)) (m then_he : ClientMemory) : Type 0 where
+  pub stands : Stands meaning list base kept.slots after then_he
+  pub honest : kept.is_honest ≡ true
+  pub makes : PartMakesAll base wanted list m part after
+
+module _ (variant : Variant) (meaning : Meaning) (before wanted : List (List ℕ)) (unbroken : AllByRecursion IsUnbroken wanted)
+    (start end : Standing) (p : Program) (s : IsSession variant meaning (session_on start p.old) (session_on end p.new) p.result)
+    (w : Option PendingRecord) (waits_here : WaitsInSlots p.old.kept.slots w) (honest : p.old.kept.is_honest ≡ true)
+    (requests after : List (List ℕ)) (waits : IsNextOrLast requests w) (room : length after ≤ last_position) (m : ClientMemory)
+    (stands : Stands meaning (before ++ wanted) (length before) p.old.kept.slots requests m)
+    (behind : (v : Option PendingRecord) → WaitsInSlots p.new.kept.slots v → IsNextOrLast after v) where
+  abbrev pub Goes : Type 0
+  Goes =
+      SessionGoesAfterResume variant meaning s.begun s.middle (host_of (session_on end p.new)) p.new.left s.taken s.sent p.result
+
+  -- what was told, by what waits in the slots
+  pub told_same : (goes : Goes) → served_calls_in (found_record s.resumes.waiting) goes ≡ served_calls_in w goes
+  told_same (inl e) = refl
+  told_same (inr g) =
+      let b = begins variant meaning (host_of (session_on start p.old)) s.middle s.begun g.first w s.resumes g.begins waits_here in
+      ap (λ (x : Option PendingRecord). first_served_call x g.first ++ g.lines.calls) (ap found_record b.0)
+
+  pub session_behind : (goes : Goes) (h : Hearing)
+      → SessionSteps meaning requests (served_calls_in w goes) (IsInHand w goes) (last_bytes_in goes) p.result after
+      → AreToldOnce (length requests) w (served_calls_in w goes) → IsGiven (lines_to_give (length before) wanted m) p.old.left
+      → IsHeard (served_calls_in w goes) p.result h
+      → (p.result ≡ Err (Host Store) → (slots : Slots) → p.new.kept.slots ≡ Some slots
+      → IsNotBeyond slots (reached_position w (served_calls_in w goes) + 1))
+      → (p.result ≡ Err (Host Store) → (q : PendingRecord) → WaitsInSlots p.new.kept.slots (Some q)
+      → q.position ≡ reached_position w (served_calls_in w goes) + 1 → IsInHand w goes q.request)
+      → Behind meaning (before ++ wanted) (length before) wanted p.new.kept (Holds p) after m (memory_after m h)
+  session_behind (inl e) h steps once given heard chance other = record {
+    stands = stopped s w waits_here honest requests steps.between after waits room before wanted m stands h e.0 e.1 heard behind steps.run
+        steps.committed;
+    honest =
+        ap (λ (x : _). x.kept.is_honest) e.0
+        ∙ (resumed_so 2 (omega arith) (omega arith) variant meaning (host_of (session_on start p.old)) s.middle s.begun honest
+        s.resumes).honest
+        ∙ honest;
+    makes = λ sure whole ended. let is = e.1.stops in absurd (cc);
+  }
+  session_behind (inr g) h steps once given heard chance other = record {
+    stands = going.goes_by s w waits_here honest requests steps.between after waits room before wanted unbroken m stands h g once
+        steps.run steps.committed given heard chance other;
+    honest = going.still_honest s w waits_here honest requests steps.between after waits room before wanted unbroken m stands h g once
+        steps.run steps.committed given heard;
+    makes = going.makes_all s w waits_here honest requests steps.between after waits room before wanted unbroken m stands h g once
+        steps.run steps.committed given heard;
+  }
+
+module _ (all others : List (List ℕ)) (asked : List Batch) (i : Instance) (before wanted : List (List ℕ))
+    (unbroken : AllByRecursion IsUnbroken wanted) where
+  abbrev list : List (List ℕ)
+  list = before ++ wanted
+
+  stands_on : (slots slots' : Option Slots) (requests : List (List ℕ)) (m : ClientMemory) → slots' ≡ slots
+      → Stands i.meaning list (length before) slots requests m → Stands i.meaning list (length before) slots' requests m
+  stands_on slots slots' requests m e x =
+      subst (λ (t : Option Slots). Stands i.meaning list (length before) t requests m) (sym e) x
+
+  program_behind : (kept : StoreStanding) (old : Standing) (p : Program) (new : Standing)
+      (s : PartLeads i.variant i.meaning old (Holds p) new)
+      (requests between : List (List ℕ)) (m then_he : ClientMemory) → kept.is_honest ≡ true → BeginsOver kept (Holds p)
+      → Stands i.meaning list (length before) kept.slots requests m
+      → PartGoesOn all others asked i old (Holds p) new s requests between
+      → IsClientPart (length before) wanted i.variant i.meaning old (Holds p) new s m then_he
+      → LeavesNoChance i.variant i.meaning old (Holds p) new s → LeavesNoOther i.variant i.meaning old (Holds p) new s
+      → ((v : Option PendingRecord) → WaitsInSlots p.new.kept.slots v → IsNextOrLast between v)
+      → Behind i.meaning list (length before) wanted p.new.kept (Holds p) between m then_he
+  program_behind kept old p new s requests between m then_he honest over stands goes c chance other behind =
+      let w : Option PendingRecord = goes.0 in
+      let waits_here : WaitsInSlots p.old.kept.slots w = goes.1 in
+      let g = goes.2 in
+      let told = told_same i.variant i.meaning before wanted unbroken old new p s w waits_here (over.0 ∙ honest) requests between g.waits
+      g.room m (stands_on kept.slots p.old.kept.slots requests m over.1 stands) behind s.goes in
+      let made = session_behind i.variant i.meaning before wanted unbroken old new p s w waits_here (over.0 ∙ honest) requests between
+      g.waits g.room m (stands_on kept.slots p.old.kept.slots requests m over.1 stands) behind s.goes c.hearing g.steps g.once c.given
+      (subst (λ (t : List ServedCall). IsHeard t p.result c.hearing) told c.heard) (λ failed. chance failed w waits_here)
+      (λ failed. other failed w waits_here) in
+      subst (λ (x : ClientMemory). Behind i.meaning list (length before) wanted p.new.kept (Holds p) between m x) (sym c.remembers) made
+
+  -- what waits fits the requests, as the next program finds it, or by the end
+  part_ahead : (kept : StoreStanding) (start : Standing) (part : LifePart) (next : Standing)
+      (f : PartLeads i.variant i.meaning start part next) (requests between : List (List ℕ))
+      → PartGoesOn all others asked i start part next f requests between → BeginsOver kept part
+      → ((v : Option PendingRecord) → WaitsInSlots (store_behind kept part).slots v → IsNextOrLast between v)
+      → (v : Option PendingRecord) → WaitsInSlots kept.slots v → IsNextOrLast requests v
+  part_ahead kept start (Holds p) next f requests between goes over later v w =
+      let same : v ≡ goes.0 = same_waits kept.slots v goes.0 w (subst (λ (t : Option Slots). WaitsInSlots t goes.0) over.1 goes.1) in
+      subst (λ (x : Option PendingRecord). IsNextOrLast requests x) (sym same) goes.2.waits
+  part_ahead kept start (Does deed) next f requests between goes over later v w =
+      subst (λ (rs : List (List ℕ)). IsNextOrLast rs v) goes (later v w)
+
+  pub fits_ahead : (stages : List LifeStage) (kept : StoreStanding) (start : Standing) (f : IsLife i.variant i.meaning start stages)
+      (requests after : List (List ℕ)) → GoesOnFrom all others asked i start stages f requests after → IsOverOneStore kept stages
+      → ((v : Option PendingRecord) → WaitsInSlots (store_at_end kept stages).slots v → IsNextOrLast after v)
+      → (v : Option PendingRecord) → WaitsInSlots kept.slots v → IsNextOrLast requests v
+  fits_ahead [] kept start f requests after goes over end v w = subst (λ (rs : List (List ℕ)). IsNextOrLast rs v) goes (end v w)
+  fits_ahead (stage ∷ stages) kept start f requests after goes over end v w =
+      part_ahead kept start stage.part stage.after f.0 requests goes.0 goes.1 over.0
+      (fits_ahead stages (store_behind kept stage.part) stage.after f.1 goes.0 after goes.2 over.1 end) v w
+
+  -- one part
+  part_behind : (kept : StoreStanding) (old : Standing) (part : LifePart) (new : Standing)
+      (f : PartLeads i.variant i.meaning old part new) (requests between : List (List ℕ)) (m then_he : ClientMemory)
+      → kept.is_honest ≡ true → BeginsOver kept part → Stands i.meaning list (length before) kept.slots requests m
+      → PartGoesOn all others asked i old part new f requests between
+      → IsClientPart (length before) wanted i.variant i.meaning old part new f m then_he
+      → LeavesNoChance i.variant i.meaning old part new f → LeavesNoOther i.variant i.meaning old part new f
+      → ((v : Option PendingRecord) → WaitsInSlots (store_behind kept part).slots v → IsNextOrLast between v)
+      → Behind i.meaning list (length before) wanted (store_behind kept part) part between m then_he
+  part_behind kept old (Holds p) new f requests between m then_he honest over stands goes c chance other behind =
+      program_behind kept old p new f requests between m then_he honest over stands goes c chance other behind
+  part_behind kept old (Does deed) new f requests between m then_he honest over stands goes c chance other behind = record {
+    stands = subst (λ (rs : List (List ℕ)). Stands i.meaning list (length before) kept.slots rs then_he) (sym goes)
+        (subst (λ (x : ClientMemory). Stands i.meaning list (length before) kept.slots requests x) (sym c) stands);
+    honest = honest;
+    makes = tt;
+  }
+
+  -- a life
+  pub served_from : (stages : List LifeStage) (kept : StoreStanding) (start : Standing) (f : IsLife i.variant i.meaning start stages)
+      (m after : ClientMemory) (c : IsClientLife (length before) wanted i.variant i.meaning start stages f m after)
+      (requests left : List (List ℕ)) → GoesOnFrom all others asked i start stages f requests left → IsOverOneStore kept stages
+      → AreNoChance i.variant i.meaning start stages f → AreNoOthers i.variant i.meaning start stages f → kept.is_honest ≡ true
+      → ((v : Option PendingRecord) → WaitsInSlots (store_at_end kept stages).slots v → IsNextOrLast left v)
+      → Stands i.meaning list (length before) kept.slots requests m
+      → IsServedFrom all others asked i (length before) before wanted start stages f m after c requests left
+  served_from [] kept start f m after c requests left goes over chance other honest end stands = (goes, stands.moment)
+  served_from (stage ∷ stages) kept start f m after c requests left goes over chance other honest end stands =
+      let b = part_behind kept start stage.part stage.after f.0 requests goes.0 m c.0 honest over.0 stands goes.1 c.1 chance.0 other.0
+      (fits_ahead stages (store_behind kept stage.part) stage.after f.1 goes.0 left goes.2 over.1 end) in (
+        goes.0,
+        stands.moment,
+        goes.1,
+        b.makes,
+        served_from stages (store_behind kept stage.part) stage.after f.1 c.0 after c.2 goes.0 left goes.2 over.1 chance.1 other.1
+            b.honest end b.stands,
+      )
+
+  -- from a position that is their number
+  pub served_at : (base : ℕ) → base ≡ length before → (stages : List LifeStage) (kept : StoreStanding) (start : Standing)
+      (f : IsLife i.variant i.meaning start stages)
+      (m after : ClientMemory) (c : IsClientLife base wanted i.variant i.meaning start stages f m after)
+      (requests left : List (List ℕ)) → GoesOnFrom all others asked i start stages f requests left → IsOverOneStore kept stages
+      → AreNoChance i.variant i.meaning start stages f → AreNoOthers i.variant i.meaning start stages f → kept.is_honest ≡ true
+      → ((v : Option PendingRecord) → WaitsInSlots (store_at_end kept stages).slots v → IsNextOrLast left v)
+      → Stands i.meaning list (length before) kept.slots requests m
+      → IsServedFrom all others asked i base before wanted start stages f m after c requests left
+  served_at base e stages kept start f m after c requests left goes over chance other honest end stands =
+      subst (λ (b : ℕ). (c : IsClientLife b wanted i.variant i.meaning start stages f m after)
+      → IsServedFrom all others asked i b before wanted start stages f m after c requests left) (sym e)
+      (λ d. served_from stages kept start f m after d requests left goes over chance other honest end stands) c

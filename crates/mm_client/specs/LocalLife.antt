@@ -1,0 +1,107 @@
+-- A client of one program, whose platform and store are its own: what each session comes to, and
+-- what all of them are.
+use Rattle.std.specs.Prelude.{◌≡◌, ◌⊎◌, ℕ, true, List, [], ◌++◌, drop, take, length, Option, Some, Result, Ok, Err}
+use Rattle.std.specs.List.{AllByRecursion}
+use Rattle.mm_base.specs.declared.replay_fault.ReplayFault.TheVariants.{WriteFault}
+use Rattle.mm_host.specs.SessionStanding.{session_standing}
+use Rattle.mm_host.specs.declared.fault.SessionFault.TheVariants.{Lines}
+use Rattle.mm_recovery.specs.FirstStart.{InstanceBegins, ShowsValues}
+use Rattle.mm_recovery.specs.HostStanding.{host_standing}
+use Rattle.mm_recovery.specs.Init.{Devices}
+use Rattle.mm_store.specs.Slots.{Slots}
+use Rattle.mm_life.specs.HonestLife.{store_at_end}
+use Rattle.mm_life.specs.OneStore.{KeepsStore}
+use Rattle.mm_client.specs.Below.{Variant, Basic, Opt, Standing, Meaning, StoreStanding, IsUnbroken, basic_instance, opt_instance}
+use Rattle.mm_client.specs.Below.{HostStanding, SessionFault, IsSession, Does, Holds, IsLife, LifePart, LifeStage}
+use Rattle.mm_client.specs.Below.{IsOverOneStore, HasClash, end_of, life_batches, life_messages, opt_messages, others_values}
+use Rattle.mm_client.specs.Hearing.{ClientMemory, Hearing, memory_at}
+use Rattle.mm_client.specs.ClientLife.{IsClientLife, IsGiven}
+use Rattle.mm_client.specs.Output.{replies_in}
+use Rattle.mm_client.specs.ServedOnce.{IsServedOnce}
+
+-- The first bytes of an output are heard, and the replies in them. All is heard only where the
+-- session ended with Ok; and where the output failed, nothing.
+pub record HearsOutput (output : List ℕ) (result : Result Unit SessionFault)
+    (heard : Hearing) : Type 0 where
+  pub bytes : List ℕ
+  pub lost : List ℕ
+  pub front : bytes ++ lost ≡ output
+  pub replies : heard.replies ≡ replies_in bytes
+  pub cut : result ≡ Err (Lines WriteFault) → bytes ≡ []
+  pub whole : heard.is_whole ≡ true → (result ≡ Ok tt) × (lost ≡ [])
+
+-- what a program tells: its variant, its module, and its host's devices
+pub record LocalStanding : Type 0 where
+  pub variant : Variant
+  pub meaning : Meaning
+  pub host : HostStanding
+
+abbrev pub local_standing : Variant → Meaning → Standing → StoreStanding → LocalStanding
+local_standing variant meaning standing kept =
+    record { variant = variant; meaning = meaning; host = host_standing standing kept }
+
+-- The program holds one session, over an input and an output of its own: the first bytes of these
+-- lines come in, and this is heard of it.
+pub record HoldsSession (old new : LocalStanding) (lines : List (List ℕ)) (heard : Hearing) : Type 0
+  where
+    pub variant : new.variant ≡ old.variant
+    pub meaning : new.meaning ≡ old.meaning
+    pub given : List ℕ
+    pub cut : IsGiven lines (Some given)
+    pub left : Option (List ℕ)
+    pub output : List ℕ
+    pub result : Result Unit SessionFault
+    pub session : IsSession old.variant old.meaning
+        (session_standing old.host.standing old.host.kept (Some given) (Some []))
+        (session_standing new.host.standing new.host.kept left (Some output)) result
+    pub hears : HearsOutput output result heard
+
+-- the store failed in none of the sessions
+abbrev pub KeepsStoreIn : LifePart → Type 0
+KeepsStoreIn (Holds p) = KeepsStore p.result
+KeepsStoreIn (Does deed) = Unit {0}
+
+abbrev pub KeepStore : List LifeStage → Type 0
+KeepStore stages = AllByRecursion (λ stage. KeepsStoreIn stage.part) stages
+
+-- The client of such a life, who remembers this at its end, is served once. Or it gives evidence:
+-- two different messages of its calls, in Opt also by which the register's items went into it, have
+-- one digest, or the digest of one is zero; or in Opt a value of others is the guard of a request.
+abbrev pub IsServedIn : (variant : Variant) (meaning : Meaning) (secrets : List ℕ)
+    (kept : StoreStanding) (start : Standing) (stages : List LifeStage)
+    → IsLife variant meaning start stages → List (List ℕ) → ClientMemory → Type 0
+IsServedIn Basic meaning secrets kept start stages f wanted client =
+    (let i = basic_instance meaning (take 32 secrets) in
+    (IsClientLife 0 wanted Basic meaning start stages f (memory_at 0) client
+    × IsServedOnce (life_messages i start stages f) [] (life_batches i start stages f) i kept start
+    stages f wanted)
+    ⊎ HasClash i (life_messages i start stages f) [] (life_batches i start stages f))
+IsServedIn Opt meaning secrets kept start stages f wanted client =
+    (let i = opt_instance meaning (take 32 secrets) (drop 32 secrets) in
+    (IsClientLife 0 wanted Opt meaning start stages f (memory_at 0) client
+    × IsServedOnce (opt_messages i start stages f) (others_values i start stages f)
+    (life_batches i start stages f) i kept start stages f wanted)
+    ⊎ HasClash i (opt_messages i start stages f) (others_values i start stages f)
+    (life_batches i start stages f))
+
+-- An instance was begun, and then a client who wants these lines had so many sessions of it held,
+-- by the rule. They are a life over one store. He is served once, where the platform told its cell
+-- before, and in Opt the register behind the first start, and an honest store its slots; and the
+-- store failed in none of the sessions.
+pub record ServesLocalClient (variant : Variant) (meaning : Meaning) (old : Devices)
+    (new : HostStanding) (wanted : List (List ℕ)) (rounds : ℕ) (client : ClientMemory)
+    : Type 0 where
+  pub started : Devices
+  pub begun : InstanceBegins variant meaning old started
+  pub stages : List LifeStage
+  pub count : length stages ≡ rounds
+  pub life : IsLife variant meaning started.platform stages
+  pub over : IsOverOneStore started.store stages
+  pub ends : end_of started.platform stages ≡ new.standing
+  pub left : store_at_end started.store stages ≡ new.kept
+  pub serves : (cell : List ℕ) (values : List (List ℕ)) (slots : Slots) →
+      old.platform.cell ≡ Some cell → ShowsValues variant started.platform values →
+      old.store.is_honest ≡ true → old.store.slots ≡ Some slots → KeepStore stages →
+      AllByRecursion IsUnbroken wanted →
+      IsServedIn variant meaning begun.secrets started.store started.platform stages life wanted
+      client

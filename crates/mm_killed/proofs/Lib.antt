@@ -1,0 +1,3 @@
+mod Stopping
+mod Failing
+pub mod Above

@@ -1,0 +1,3 @@
+pub mod Programs
+pub mod DeviceCalls
+pub mod Stopping

@@ -1,0 +1,3 @@
+mod CellStops
+mod PageStops
+mod Reaching

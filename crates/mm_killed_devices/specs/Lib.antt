@@ -1,0 +1,3 @@
+pub mod RawCalls
+pub mod PageCalls
+pub mod Devices

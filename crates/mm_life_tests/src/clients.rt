@@ -1,0 +1,96 @@
+//! A client over a program in memory: each of his requests is run once, though his lines and what
+//! he hears are cut, session after session.
+
+use mm_base::MemSource;
+use mm_bytes::{Bytes, Memory, put_decimal, put_numbered};
+use mm_client::{Carried, Client, Connection, LocalProgram, serve_local_client};
+use mm_digest::Variant;
+use mm_module::Counter;
+use mm_pages::{MemPages, PageStore};
+use mm_twocell::{MemRaw, TwoCell};
+use std::alloc::Global;
+use std::test::Fail;
+
+/// A connection that is lost at bytes which come from a fixed seed, for so many sessions, and then
+/// carries all.
+#[derive(Drop)]
+struct Cuts {
+    seed: u64,
+    left: u32,
+}
+
+impl Cuts {
+    fn chance(&mut self) -> usize {
+        self.seed = self
+            .seed
+            .wrapping_mul(6364136223846793005)
+            .wrapping_add(1442695040888963407);
+        (self.seed >> 33) as usize % 40
+    }
+}
+
+impl Connection for Cuts {
+    fn carry(&mut self) -> Carried {
+        if self.left == 0 {
+            return Carried {
+                given: usize::MAX,
+                heard: usize::MAX,
+            };
+        }
+        self.left -= 1;
+        Carried {
+            given: self.chance(),
+            heard: self.chance(),
+        }
+    }
+}
+
+// The requests `add 1` to `add 20`.
+fn requests(alloc: Global) -> Result<Vec<Bytes>, Memory> {
+    let mut requests = Vec::new(alloc);
+    for number in 1..21u64 {
+        let mut request = Bytes::new(alloc);
+        put_numbered(&mut request, b"add ", number)?;
+        requests.push(request)?;
+    }
+    Ok(requests)
+}
+
+// Whether each reply that he heard says the sum up to its position.
+fn has_heard_sums(alloc: Global, client: &Client) -> Result<bool, Memory> {
+    for reply in client.replies() {
+        let position = reply.position;
+        let mut sum = Bytes::new(alloc);
+        put_decimal(
+            &mut sum,
+            position.wrapping_mul(position.wrapping_add(1)) / 2,
+        )?;
+        if sum.as_slice() != reply.output.as_slice() {
+            return Ok(false);
+        }
+    }
+    Ok(true)
+}
+
+#[test]
+fn each_request_of_a_client_is_run_once(rt: HostRuntime) -> Result<(), Fail> {
+    let alloc = rt.alloc();
+    let wanted = requests(alloc)?;
+    for (variant, seed) in [(Variant::Basic, 1), (Variant::Opt, 2), (Variant::Basic, 3)] {
+        let mut program = LocalProgram {
+            alloc,
+            variant,
+            module: Counter,
+            platform: TwoCell::new(MemRaw::new(alloc)),
+            store: PageStore::new(alloc, MemPages::new(alloc)?)?,
+            connection: Cuts { seed, left: 40 },
+        };
+        let mut entropy = MemSource::new(alloc, &[7; 64], &[])?;
+        let came = serve_local_client(&mut program, &mut entropy, wanted.as_slice(), 44);
+        let client = came.ok().ok_or("no client")?;
+        assert!(rt; client.is_sure());
+        assert_eq!(rt; client.position(), 20);
+        assert!(rt; has_heard_sums(alloc, &client)?);
+    }
+    Ok(())
+}

@@ -1,0 +1,10 @@
+mod Each
+mod CallStops
+mod ClosingStops
+mod Counting
+mod HostStops
+mod LineStops
+mod SessionStops
+mod MortalEnds
+mod MortalTurns
+mod MortalLaws

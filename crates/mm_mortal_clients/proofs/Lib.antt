@@ -1,0 +1,4 @@
+mod Honest
+mod Ending
+mod SameLife
+mod ServedLaws

@@ -1,0 +1,4 @@
+pub mod Below
+pub mod MortalClient
+pub mod MortalServedOnce
+pub mod Laws
