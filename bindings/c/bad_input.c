@@ -72,6 +72,15 @@ int main(void)
     EXPECT(memoir_provision(&instance, &keys, &first, snapshot, sizeof snapshot) == MEMOIR_DONE);
     EXPECT(first.snapshot_length == 90);
 
+    /* What a cell holds. */
+    struct memoir_instance held = {7, 7};
+    static const uint8_t blank[MEMOIR_CELL];
+    EXPECT(memoir_cell_instance(blank, &held) == MEMOIR_BLANK);
+    first.cell[7] ^= 1;
+    EXPECT(memoir_cell_instance(first.cell, &held) == MEMOIR_OTHER_CELL && held.variant == 7 && held.module == 7);
+    first.cell[7] ^= 1;
+    EXPECT(memoir_cell_instance(first.cell, &held) == MEMOIR_DONE && held.variant == MEMOIR_BASIC && held.module == 1);
+
     EXPECT(says(MEMOIR_NO_VARIANT, 0, 1, 0, snapshot, 90, sizeof room));
     EXPECT(says(MEMOIR_NO_MODULE, 1, 99, 0, snapshot, 90, sizeof room));
     EXPECT(says(MEMOIR_TOO_MANY, 1, 1, MEMOIR_STEPS + 1, snapshot, 90, sizeof room));
@@ -85,7 +94,8 @@ int main(void)
     snapshot[60] ^= 1;
     EXPECT(says(MEMOIR_TAG, 1, 1, 1, snapshot, 90, sizeof room));
     snapshot[60] ^= 1;
-    EXPECT(says(MEMOIR_KIND, 1, 1, 1, snapshot, 0, sizeof room) || says(MEMOIR_FORM, 1, 1, 1, snapshot, 0, sizeof room));
+    EXPECT(says(MEMOIR_FORM, 1, 1, 1, snapshot, 0, sizeof room));
+    EXPECT(says(MEMOIR_FORM, 1, 1, 1, NULL, 0, sizeof room));
     EXPECT(says(MEMOIR_OTHER_CELL, 2, 1, 1, snapshot, 90, sizeof room));
     steps[0].answer = 3;
     EXPECT(says(MEMOIR_NO_STEP, 1, 1, 1, snapshot, 90, sizeof room));
@@ -111,7 +121,26 @@ int main(void)
     EXPECT(memoir_ask(&instance, steps, 2, snapshot, 90, (const uint8_t *)"add 5", 5, &reply, room, 91) == MEMOIR_DONE);
     EXPECT(reply.position == 1 && reply.again == 0 && reply.output_length == 1 && reply.snapshot_length == 90);
     EXPECT(room[0] == '5' && room[91] == 0x5a);
+    /* No room at all, no steps, and a request without bytes. */
+    EXPECT(memoir_ask(&instance, steps, 2, snapshot, 90, (const uint8_t *)"add 5", 5, &reply, NULL, 0) == MEMOIR_NO_ROOM);
+    EXPECT(memoir_ask(&instance, NULL, 0, snapshot, 90, NULL, 0, &reply, NULL, 0) == MEMOIR_NEXT);
     memcpy(answer, room, 91);
+    memset(room, 0x5a, sizeof room);
+
+    /* Two requests for one write: another write than that of one; too little room; and one request too many. */
+    const uint8_t *both = (const uint8_t *)"add 5\tadd 2";
+    EXPECT(memoir_ask_batch(&instance, steps, 2, snapshot, 90, both, 11, &reply, room, sizeof room) == MEMOIR_DIFFERS);
+    EXPECT(memoir_ask_batch(&instance, steps, 1, snapshot, 90, both, 11, &reply, room, sizeof room) == MEMOIR_NEXT);
+    struct memoir_step made[] = {steps[0], reply.next};
+    EXPECT(memoir_ask_batch(&instance, made, 2, snapshot, 90, both, 11, &reply, room, 93) == MEMOIR_NO_ROOM);
+    EXPECT(room[0] == 0x5a);
+    EXPECT(memoir_ask_batch(&instance, made, 2, snapshot, 90, both, 11, &reply, room, 94) == MEMOIR_DONE);
+    EXPECT(reply.position == 2 && reply.again == 0 && reply.output_length == 4 && reply.snapshot_length == 90);
+    EXPECT(memcmp(room, "5\n7\n", 4) == 0 && room[94] == 0x5a);
+    memset(text, '\t', 64);
+    EXPECT(memoir_ask_batch(&instance, NULL, 0, snapshot, 90, text, 63, &reply, NULL, 0) == MEMOIR_NEXT);
+    EXPECT(memoir_ask_batch(&instance, NULL, 0, snapshot, 90, text, 64, &reply, NULL, 0) == MEMOIR_LONG);
+    memset(text, 0, sizeof text);
     memset(room, 0x5a, sizeof room);
 
     /* The same with what was sealed last kept: with no memory, with too little and with enough, and behind another key. */
@@ -135,11 +164,37 @@ int main(void)
             steps[0].bytes[60] ^= 1;
             for (size_t i = size; i < sizeof memory; i++)
                 EXPECT(memory[i] == 0x5a);
+            EXPECT(memoir_is_kept(&kept, memory, size) == 1);
         }
     }
+    /* A byte of a text, of its tag or of the key is another. */
+    uint8_t *parts[] = {memory, &kept.last.tag[31], &kept.key[7]};
+    keeps(MEMOIR_DONE, 2, snapshot, 90, &kept, sizeof memory);
+    for (size_t i = 0; i < sizeof parts / sizeof *parts; i++) {
+        *parts[i] ^= 1;
+        EXPECT(memoir_is_kept(&kept, memory, sizeof memory) == 0);
+        *parts[i] ^= 1;
+    }
+    EXPECT(memoir_is_kept(&kept, memory, sizeof memory) == 1);
     memset(room, 0x5a, sizeof room);
 
-    /* A checkpoint of Basic. */
+    /* A request too long, told before the first step; the least number of what is wrong. */
+    memset(text, 'a', 4097);
+    EXPECT(memoir_ask(&instance, NULL, 0, NULL, 0, text, 4097, &reply, NULL, 0) == MEMOIR_LONG);
+    EXPECT(memoir_ask(&instance, steps, 1, NULL, 0, text, 4097, &reply, NULL, 0) == MEMOIR_DIFFERS);
+    EXPECT(memoir_ask(&none, steps, MEMOIR_STEPS + 1, NULL, 0, NULL, 0, &reply, NULL, 0) == MEMOIR_NO_MODULE);
+    EXPECT(memoir_ask(&other, NULL, 0, NULL, 0, NULL, 0, &reply, NULL, 0) == MEMOIR_NO_VARIANT);
+    memset(text, 0, sizeof text);
+
+    /* What is kept, with no memory, and forgotten: no key is left. */
+    static const struct memoir_kept forgotten_key;
+    memoir_forget(&kept);
+    EXPECT(memcmp(kept.key, forgotten_key.key, sizeof kept.key) == 0);
+    EXPECT(memoir_is_kept(&kept, memory, sizeof memory) == 1 && memoir_is_kept(&kept, NULL, 0) == 1);
+    EXPECT(memoir_ask_keeping(&instance, NULL, 0, NULL, 0, NULL, 0, &kept, NULL, 0, &reply, NULL, 0) == MEMOIR_NEXT);
+
+    /* A checkpoint of Basic; nothing but bytes without length is null. */
+    EXPECT(memoir_checkpoint(NULL, 0, &unsaid.next) == MEMOIR_NEXT && unsaid.next.kind == MEMOIR_READ_CELL);
     EXPECT(memoir_checkpoint(steps, 1, &unsaid.next) == MEMOIR_KIND);
     EXPECT(memoir_checkpoint(steps, 2, &unsaid.next) == MEMOIR_DIFFERS);
     EXPECT(memoir_checkpoint(steps, MEMOIR_STEPS + 1, &unsaid.next) == MEMOIR_TOO_MANY);
@@ -151,9 +206,11 @@ int main(void)
     EXPECT(memoir_pending(1, (const uint8_t *)"a\n", 2, &length, room, sizeof room) == MEMOIR_LONG);
     EXPECT(memoir_pending(1, text, 5, &length, room, 52) == MEMOIR_NO_ROOM);
     EXPECT(length == 7 && memcmp(room, before, sizeof room) == 0);
+    EXPECT(memoir_pending(1, NULL, 0, &length, text + 100, 48) == MEMOIR_DONE && length == 48);
     EXPECT(memoir_pending(1, text, 5, &length, text + 100, 53) == MEMOIR_DONE && length == 53);
     length = 7;
     EXPECT(memoir_read_pending(2, text + 100, 53, &position, &length, room, sizeof room) == MEMOIR_FORM);
+    EXPECT(memoir_read_pending(3, NULL, 0, &position, &length, NULL, 0) == MEMOIR_FORM);
     EXPECT(memoir_read_pending(3, text + 100, 53, &position, &length, room, 4) == MEMOIR_NO_ROOM);
     EXPECT(position == 7 && length == 7 && memcmp(room, before, sizeof room) == 0);
     EXPECT(memoir_read_pending(3, text + 100, 53, &position, &length, room, 5) == MEMOIR_DONE);

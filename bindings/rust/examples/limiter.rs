@@ -2,10 +2,11 @@
 //!
 //!     limiter VARIANT [EVENT STEP] <LINES
 
-use memoir_core::{
-    pending, read_pending, Answer, Checkpointed, Core, Devices, Fault, Refusal, Variant,
+use memoir_core::{Answer, Checkpointed, Devices, Fault, Host, HostFault, Refusal, Store, Variant};
+use std::{
+    convert::Infallible,
+    io::{self, BufRead, Write},
 };
-use std::io::{self, BufRead, Write};
 
 /// The devices; power is cut just behind the effect of a step of this event, where one is named.
 struct Memory {
@@ -61,104 +62,90 @@ impl Devices for Memory {
     }
 }
 
-/// The host: its devices, and its disk of four slots, two for snapshots and two for records.
-struct Host {
-    core: Core,
-    devices: Memory,
-    slots: [Vec<u8>; 4],
-    position: u64,
+/// The slots. Yours are files, and a write is synced with its name before it answers.
+#[derive(Default)]
+struct Slots([Vec<u8>; 4]);
+
+impl Store for Slots {
+    type Fault = Infallible;
+
+    fn read(&mut self, slot: usize) -> Result<Vec<u8>, Infallible> {
+        Ok(self.0[slot].clone())
+    }
+
+    fn write(&mut self, slot: usize, bytes: &[u8]) -> Result<(), Infallible> {
+        self.0[slot] = bytes.to_vec();
+        Ok(())
+    }
 }
 
-impl Host {
-    /// A new instance, under the key and the barrier of a replay.
-    fn new(variant: Variant) -> Option<Host> {
-        let mut core = Core::new(variant, "limiter")?;
-        let first = core
-            .provision(
-                &std::array::from_fn(|i| i as u8),
-                &std::array::from_fn(|i| 32 + i as u8),
-            )
-            .ok()?;
-        let devices = Memory {
-            cell: first.cell,
-            register: [0; 32],
-            is_on: true,
-            made: 0,
-            cut: None,
-        };
-        Some(Host {
-            core,
-            devices,
-            slots: [first.snapshot, vec![], vec![], vec![]],
-            position: 0,
-        })
-    }
+type Came = Result<Answer, HostFault<Infallible>>;
 
-    /// Asks the request of this position, offering the snapshot before it, and keeps the snapshot of the answer.
-    fn ask_at(&mut self, position: u64, request: &[u8]) -> Result<Answer, Refusal> {
-        let offer = &self.slots[((position - 1) % 2) as usize];
-        let answer = self.core.ask(&mut self.devices, offer, request)?;
-        self.position = answer.position;
-        self.slots[(answer.position % 2) as usize] = answer.snapshot.clone();
-        Ok(answer)
-    }
+/// A new instance, under the key and the barrier of a replay; yours are secret, and random.
+fn made(variant: Variant) -> Result<Host<Memory, Slots>, HostFault<Infallible>> {
+    let mut devices = Memory {
+        cell: [0; 104],
+        register: [0; 32],
+        is_on: true,
+        made: 0,
+        cut: None,
+    };
+    let mut slots = Slots::default();
+    let (key, barrier) = (
+        std::array::from_fn(|i| i as u8),
+        std::array::from_fn(|i| 32 + i as u8),
+    );
+    Host::provision(
+        variant,
+        "limiter",
+        (&key, &barrier),
+        &mut devices,
+        &mut slots,
+    )?;
+    let mut host = Host::open(devices, slots)?;
+    host.resume()?;
+    Ok(host)
+}
 
-    /// Asks a new request, once its record is kept.
-    fn ask_next(&mut self, request: &[u8]) -> Result<Answer, Refusal> {
-        let position = self.position + 1;
-        self.slots[2 + (position % 2) as usize] =
-            pending(position, request).ok_or(Refusal::Long)?;
-        self.ask_at(position, request)
-    }
-
-    /// Goes on after a stop: asks the request of the later record once more.
-    fn resume(&mut self) -> Option<Result<Answer, Refusal>> {
-        let records = [2, 3].map(|slot| read_pending(slot, &self.slots[usize::from(slot)]));
-        let (position, request) = records
-            .into_iter()
-            .flatten()
-            .max_by_key(|record| record.0)?;
-        Some(self.ask_at(position, &request))
-    }
-
-    /// One line: a request, or one of the two words.
-    fn serve(&mut self, line: &[u8], out: &mut impl Write) -> io::Result<()> {
-        match line {
-            b"power" => {
-                self.devices.power();
-                writeln!(out, "power")
-            }
-            b"checkpoint" => match self.core.checkpoint(&mut self.devices) {
-                Ok(Checkpointed::Done) => writeln!(out, "checkpointed"),
-                Ok(Checkpointed::NoSegment) => writeln!(out, "no segment"),
-                Err(refusal) => refused(refusal, out),
-            },
-            _ => match self.ask_next(line) {
-                Err(Refusal::Device) => {
-                    self.devices.power();
-                    self.devices.cut = None;
-                    self.resume().map_or(Ok(()), |replied| tell(replied, out))
-                }
-                replied => tell(replied, out),
-            },
+/// One line: a request, or one of the two words.
+fn serve(host: &mut Host<Memory, Slots>, line: &[u8], out: &mut impl Write) -> io::Result<()> {
+    match line {
+        b"power" => {
+            host.devices.power();
+            writeln!(out, "power")
         }
+        b"checkpoint" => match host.checkpoint() {
+            Ok(Checkpointed::Done) => writeln!(out, "checkpointed"),
+            Ok(Checkpointed::NoSegment) => writeln!(out, "no segment"),
+            Err(refusal) => refused(refusal, out),
+        },
+        _ => match host.ask(line) {
+            Err(HostFault::Refused(Refusal::Device)) => {
+                host.devices.power();
+                host.devices.cut = None;
+                match host.resume() {
+                    Ok(None) => Ok(()),
+                    Ok(Some(answer)) => tell(Ok(answer), out),
+                    Err(fault) => tell(Err(fault), out),
+                }
+            }
+            came => tell(came, out),
+        },
     }
 }
 
 /// Tells a reply, as a replay does.
-fn tell(replied: Result<Answer, Refusal>, out: &mut impl Write) -> io::Result<()> {
-    match replied {
-        Err(refusal) => refused(refusal, out),
+fn tell(came: Came, out: &mut impl Write) -> io::Result<()> {
+    match came {
         Ok(answer) => {
-            write!(
-                out,
-                "{} {} ",
-                if answer.again { "again" } else { "ok" },
-                answer.position
-            )?;
+            let word = if answer.again { "again" } else { "ok" };
+            write!(out, "{word} {} ", answer.position)?;
             out.write_all(&answer.output)?;
             out.write_all(b"\n")
         }
+        Err(HostFault::Refused(refusal)) => refused(refusal, out),
+        Err(HostFault::Store(never)) => match never {},
+        Err(HostFault::Already) => unreachable!("the cell was blank"),
     }
 }
 
@@ -177,12 +164,12 @@ fn main() -> io::Result<()> {
         .get(1)
         .zip(words.get(2))
         .and_then(|(e, s)| Some((e.parse::<usize>().ok()?, s.parse::<u32>().ok()?)));
-    let mut host = Host::new(variant).expect("no memory for a new instance");
+    let mut host = made(variant).expect("a new instance");
     let mut out = io::BufWriter::new(io::stdout().lock());
     for (number, line) in io::stdin().lock().split(b'\n').enumerate() {
         host.devices.made = 0;
         host.devices.cut = cut.filter(|cut| cut.0 == number + 1).map(|cut| cut.1);
-        host.serve(&line?, &mut out)?;
+        serve(&mut host, &line?, &mut out)?;
     }
     out.flush()
 }

@@ -1,8 +1,12 @@
-//! The proved cores of memoir over devices of your own: give [`Core::ask`] the five steps of [`Devices`].
+//! The proved cores of memoir over devices of your own: give [`Core::ask`] the five steps of [`Devices`], or [`Host`] these and
+//! four slots, and it keeps snapshots and records and goes on after any stop. bindings/c/memoir.h says what is asked of devices.
 //!
 //! What is proved ends at the static library's functions. This crate makes the steps that these tell, and nothing else.
 
+mod host;
 pub mod sys;
+
+pub use host::{Host, HostFault, Store};
 
 use sys::{CELL, KEY, REGISTER};
 
@@ -113,6 +117,15 @@ const NO_STEP: sys::Step = sys::Step {
     bytes: [0; CELL],
 };
 
+/// A reply that says nothing.
+const NO_REPLY: sys::Reply = sys::Reply {
+    position: 0,
+    output_length: 0,
+    snapshot_length: 0,
+    again: 0,
+    next: NO_STEP,
+};
+
 impl Core {
     /// The core of the module with this name, as "limiter"; None where no module has it.
     pub fn new(variant: Variant, module: &str) -> Option<Core> {
@@ -122,8 +135,21 @@ impl Core {
         };
         // SAFETY: each pointer is a slice's, with its length.
         let module = unsafe { sys::memoir_module_id(module.as_ptr(), module.len()) };
-        // SAFETY: takes a number.
-        let room = unsafe { sys::memoir_room(module) };
+        (module != 0).then(|| Core::of(sys::Instance { variant, module }))
+    }
+
+    /// The core of the variant and module of a cell; None where it is blank, or none that this library knows.
+    pub fn of_cell(cell: &[u8; CELL]) -> Option<Core> {
+        let mut instance = sys::Instance {
+            variant: 0,
+            module: 0,
+        };
+        // SAFETY: references.
+        let said = unsafe { sys::memoir_cell_instance(cell, &mut instance) };
+        (said == sys::DONE).then(|| Core::of(instance))
+    }
+
+    fn of(instance: sys::Instance) -> Core {
         let none = sys::Text {
             length: 0,
             tag: [0; 32],
@@ -133,14 +159,17 @@ impl Core {
             last: none,
             before: none,
         };
-        // SAFETY: a reference.
-        unsafe { sys::memoir_forget(&mut kept) };
-        (module != 0).then(|| Core {
-            instance: sys::Instance { variant, module },
+        // SAFETY: takes a number; and a reference.
+        let room = unsafe {
+            sys::memoir_forget(&mut kept);
+            sys::memoir_room(instance.module)
+        };
+        Core {
+            instance,
             room: vec![0; room],
             kept,
             memory: vec![0; 2 * room],
-        })
+        }
     }
 
     /// The first cell and snapshot under a key and a barrier of 32 secret random bytes each. Keep the snapshot, and write
@@ -180,41 +209,33 @@ impl Core {
         request: &[u8],
     ) -> Result<Answer, Refusal> {
         let mut steps = [NO_STEP; sys::STEPS];
-        let mut made = 0;
-        let mut reply = sys::Reply {
-            position: 0,
-            output_length: 0,
-            snapshot_length: 0,
-            again: 0,
-            next: NO_STEP,
-        };
-        loop {
+        let mut reply = NO_REPLY;
+        for made in 0..=sys::STEPS {
             let said = self.come_to(&steps[..made], offer, request, &mut reply);
-            if said != sys::NEXT {
+            if said != sys::NEXT || made == sys::STEPS {
                 return match said {
                     sys::MEMORY if has_changed(&steps[..made]) => Err(Refusal::Device),
                     _ => done(said).map(|()| self.answer(&reply)),
                 };
             }
             steps[made] = make(devices, reply.next);
-            made += 1;
         }
+        Err(Refusal::Device)
     }
 
     /// Closes the open segment of Opt, so that power may be lost.
     pub fn checkpoint<D: Devices>(&mut self, devices: &mut D) -> Result<Checkpointed, Refusal> {
         let mut steps = [NO_STEP; sys::STEPS];
-        let mut made = 0;
         let mut next = NO_STEP;
-        loop {
-            // SAFETY: at most as many steps as there are, and a reference.
+        for made in 0..sys::STEPS {
+            // SAFETY: as many steps as were made, and a reference.
             match unsafe { sys::memoir_checkpoint(steps.as_ptr(), made, &mut next) } {
                 sys::NEXT => steps[made] = make(devices, next),
                 sys::NO_SEGMENT => return Ok(Checkpointed::NoSegment),
                 said => return done(said).map(|()| Checkpointed::Done),
             }
-            made += 1;
         }
+        Err(Refusal::Device)
     }
 
     fn come_to(
@@ -300,7 +321,8 @@ fn done(said: u32) -> Result<(), Refusal> {
         sys::TAG => Err(Refusal::Tag),
         sys::STALE => Err(Refusal::Stale),
         sys::FULL => Err(Refusal::Full),
-        _ => unreachable!("memoir_c says {said}, which no call of this crate can lead to"),
+        // No call of this crate leads to another number; the request would be in doubt.
+        _ => Err(Refusal::Device),
     }
 }
 

@@ -100,6 +100,7 @@ pub struct First {
 
 extern "C" {
     pub fn memoir_module_id(name: *const u8, name_length: usize) -> u8;
+    pub fn memoir_cell_instance(cell: *const [u8; CELL], instance: *mut Instance) -> u32;
     pub fn memoir_room(module: u8) -> usize;
     pub fn memoir_provision(
         instance: *const Instance,
@@ -120,7 +121,20 @@ extern "C" {
         room: *mut u8,
         room_length: usize,
     ) -> u32;
+    pub fn memoir_ask_batch(
+        instance: *const Instance,
+        steps: *const Step,
+        step_count: usize,
+        offer: *const u8,
+        offer_length: usize,
+        requests: *const u8,
+        requests_length: usize,
+        reply: *mut Reply,
+        room: *mut u8,
+        room_length: usize,
+    ) -> u32;
     pub fn memoir_forget(kept: *mut Kept);
+    pub fn memoir_is_kept(kept: *const Kept, memory: *const u8, memory_length: usize) -> u8;
     pub fn memoir_ask_keeping(
         instance: *const Instance,
         steps: *const Step,

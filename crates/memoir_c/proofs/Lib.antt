@@ -1,1 +1,5 @@
+mod Batching
+mod Lines
+mod Rooming
+mod Shortening
 mod Stepping

@@ -1,5 +1,5 @@
 -- What a call from C comes to.
-use Rattle.std.specs.Prelude.{◌≡◌, ◌≢◌, ℕ, ◌<◌, List, length, None, Some, Result, Ok, Err, ◌⊎◌}
+use Rattle.std.specs.Prelude.{◌≡◌, ◌≢◌, ℕ, ◌<◌, ◌≤◌, List, length, None, Some, Result, Ok, Err, ◌⊎◌}
 use Rattle.mm_digest.specs.Messages.{variant_byte}
 use Rattle.mm_digest.specs.declared.variant.Variant.{Variant}
 use Rattle.mm_modules.specs.Modules.{meaning_of, module_of_id}
@@ -21,11 +21,15 @@ use Rattle.memoir_c.specs.Numbers.{number_of}
 use Rattle.memoir_c.specs.Steps.{AreSteps, HasNoStep}
 use Rattle.memoir_c.specs.CallReplies.{ReplyRoom, reply_state, TellsCallOutcome, TellsClosing}
 
--- no variant has this number, or no module this id
+-- a variant has this number
+abbrev pub HasVariant : Instance → Type 0
+HasVariant instance = (it : Variant) × (variant_byte it ≡ instance.variant)
+
+-- no variant has this number; or one has, and no module this id
 abbrev pub IsNoInstance : Instance → ReturnStatus → Type 0
 IsNoInstance instance why =
     ((why ≡ said.NoVariant) × ((it : Variant) → variant_byte it ≢ instance.variant))
-    ⊎ ((why ≡ said.NoModule) × (module_of_id instance.module ≡ None))
+    ⊎ ((why ≡ said.NoModule) × (HasVariant instance × (module_of_id instance.module ≡ None)))
 
 -- the variant of this number, and the module of this id
 abbrev pub AreParts : Instance → Result (Variant × AnyModule) ReturnStatus → Type 0
@@ -33,10 +37,11 @@ AreParts instance (Ok found) =
     (variant_byte found.0 ≡ instance.variant) × (module_of_id instance.module ≡ Some found.1)
 AreParts instance (Err why) = IsNoInstance instance why
 
--- there are more steps than a call makes, or one is no step
+-- there are more steps than a call makes; or there aren't, and one is no step
 abbrev pub AreNoSteps : List Step → ReturnStatus → Type 0
 AreNoSteps steps why =
-    ((why ≡ said.TooMany) × (5 < length steps)) ⊎ ((why ≡ said.NoStep) × HasNoStep steps)
+    ((why ≡ said.TooMany) × (5 < length steps))
+    ⊎ ((why ≡ said.NoStep) × ((length steps ≤ 5) × HasNoStep steps))
 
 -- The call of this variant and module with these steps made comes to this, by what the devices
 -- answered: it differs only where a step isn't the one that was told behind those before it. The
@@ -49,12 +54,17 @@ pub record IsCall (instance : Instance) (steps : List Step) (offer request : Lis
   pub are_steps : AreSteps steps made
   pub asks : ToldAskPromise parts.0 (meaning_of parts.1) (worn_host made) made offer request outcome
 
--- what a call comes to; or what is passed is no call
+-- what is passed is no call, by the first of these that is so
+abbrev pub IsNoCall : Instance → List Step → ReturnStatus → Type 0
+IsNoCall instance steps why =
+    IsNoInstance instance why
+    ⊎ ((parts : Variant × AnyModule) × AreParts instance (Ok parts) × AreNoSteps steps why)
+
+-- what a call comes to; or what is passed is none
 abbrev pub CallGives : Instance → List Step → List ℕ → List ℕ
     → Result (StepsOutcome (Result Answer Refusal)) ReturnStatus → Type 0
 CallGives instance steps offer request (Ok outcome) = IsCall instance steps offer request outcome
-CallGives instance steps offer request (Err why) =
-    IsNoInstance instance why ⊎ AreNoSteps steps why
+CallGives instance steps offer request (Err why) = IsNoCall instance steps why
 
 -- What a call tells is what it comes to.
 pub record IsTold (instance : Instance) (steps : List Step) (offer request : List ℕ)

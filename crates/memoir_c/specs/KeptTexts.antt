@@ -1,5 +1,5 @@
 -- What a host keeps between two calls.
-use Rattle.std.specs.Prelude.{◌≡◌, ℕ, ◌≤◌, ◌/◌, List, length, take, drop}
+use Rattle.std.specs.Prelude.{◌≡◌, ℕ, ◌≤◌, ◌-◌, ◌^◌, ◌/◌, List, length, replicate, take, drop}
 use Rattle.mm_digest.specs.Hmac.{hmac_of}
 use Rattle.memoir_c.specs.declared.keeping.Text.{Text}
 use Rattle.memoir_c.specs.declared.keeping.Kept.{Kept}
@@ -13,3 +13,10 @@ IsText key text bytes =
 pub record IsKept (kept : Kept) (memory : List ℕ) : Type 0 where
   pub last : IsText kept.key kept.last (take (length memory / 2) memory)
   pub before : IsText kept.key kept.before (drop (length memory / 2) memory)
+
+-- no text, with no memory as long; and nothing kept, no key neither
+abbrev pub no_text : Text
+no_text = record { length = 2 ^ 64 - 1; tag = replicate 32 0 }
+
+abbrev pub nothing_kept : Kept
+nothing_kept = record { key = replicate 32 0; last = no_text; before = no_text }

@@ -6,3 +6,5 @@ pub mod Calls
 pub mod PlainAnswers
 pub mod Records
 pub mod FirstInstance
+pub mod CellInstance
+pub mod BatchCalls

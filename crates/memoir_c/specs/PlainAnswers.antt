@@ -1,7 +1,7 @@
 -- What the functions answer that make no step: of modules, and of receipts.
 use Rattle.std.specs.Prelude.{ℕ, ◌+◌, ◌==◌, List, length, Option, None, Some, Result, Ok, Err, nat_lt, if◌then◌else◌}
 use Rattle.std.specs.Option.{option_map_or}
-use Rattle.mm_base.specs.Limits.{limit_of, longest_request}
+use Rattle.mm_bytes.specs.Limits.{limit_of, longest_request}
 use Rattle.mm_modules.specs.Modules.{meaning_of, module_of_name, module_of_id}
 use Rattle.mm_model.specs.declared.refusal.Refusal.TheVariants as refusal
 use Rattle.mm_receipted.specs.Receipts.{check_of_receipt}

@@ -1,10 +1,12 @@
 //! A call that asks for a request.
 
-ghost use Rattle.std.specs.Prelude.{◌≡◌, ◌≢◌, ◌<◌, ◌≤◌, ◌++◌, true, false, length, drop};
+ghost use Rattle.std.specs.Prelude.{◌≡◌, ◌≢◌, ◌<◌, ◌≤◌, ◌++◌, true, false, length, take, drop, IfOk, IfErr, OnOk};
+ghost use Rattle.memoir_c.specs.Steps.{AreSteps};
 ghost use Rattle.mm_told.specs.ToldAskPromise.{ToldAskPromise};
 ghost use Rattle.mm_told.specs.HostLaws.{worn_host};
-ghost use Rattle.memoir_c.specs.Calls.{AreParts, CallGives, IsTold};
+ghost use Rattle.memoir_c.specs.Calls.{AreParts, CallGives, IsNoCall, IsTold};
 ghost use Rattle.memoir_c.specs.KeptTexts.{IsKept};
+ghost use Rattle.memoir_c.specs.PlainAnswers.{room_with};
 ghost use Rattle.memoir_c.specs.CallReplies.{reply_room, reply_state, TellsCallOutcome, TellsAnswer};
 
 use crate::keeping::{Kept, keep, key_kept};
@@ -56,6 +58,8 @@ pub extern "C" fn memoir_ask(
         (reply_room reply.old room.old) (reply_room reply.new room.new) result }
     ensures unwritten { result ≢ 0 → room.new ≡ room.old }
     ensures unsaid { result ≢ 0 → result ≢ 16 → reply.new ≡ reply.old }
+    ensures few { result ≡ 16 → length steps.now < 5 }
+    ensures enough { room_with instance.now.«module» ≤ length room.old → result ≢ 36 }
 {
     let mut keys = KeptKey::new();
     tell(
@@ -86,6 +90,8 @@ pub extern "C" fn memoir_ask_keeping(
         (reply_room reply.old room.old) (reply_room reply.new room.new) result }
     ensures unwritten { result ≢ 0 → room.new ≡ room.old }
     ensures unsaid { result ≢ 0 → result ≢ 16 → reply.new ≡ reply.old }
+    ensures few { result ≡ 16 → length steps.now < 5 }
+    ensures enough { room_with instance.now.«module» ≤ length room.old → result ≢ 36 }
 {
     let mut keys = key_kept(alloc, kept, memory);
     let said = tell(
@@ -110,6 +116,25 @@ pub fn parts(instance: &Instance) -> Result<(Variant, AnyModule), ReturnStatus>
     Ok((variant, module))
 }
 
+/// The variant and the module, and the steps that were made.
+pub fn taken(
+    instance: &Instance,
+    steps: &[Step],
+    into: &mut [MadeStep; MOST_STEPS],
+) -> Result<(Variant, AnyModule), ReturnStatus>
+    ensures ok { IfOk result (λ found. AreParts instance.now (Ok found)) }
+    ensures few { OnOk result (length steps.now ≤ 5) }
+    ensures steps { OnOk result (AreSteps steps.now (take (length steps.now) into.new)) }
+    ensures err { IfErr result (λ why. IsNoCall instance.now steps.now why) }
+{
+    let (variant, module) = parts(instance)?;
+    if steps.len() > MOST_STEPS {
+        return Err(ReturnStatus::TooMany);
+    }
+    put_made(steps, into)?;
+    Ok((variant, module))
+}
+
 // What the call comes to.
 fn asked(
     alloc: Global,
@@ -121,12 +146,8 @@ fn asked(
 ) -> Result<StepsOutcome<Result<Answer, Refusal>>, ReturnStatus>
     ensures { CallGives instance.now steps.now offer.now request.now result }
 {
-    let (variant, module) = parts(instance)?;
-    if steps.len() > MOST_STEPS {
-        return Err(ReturnStatus::TooMany);
-    }
     let mut made = [MadeStep::ResetRegister(Ok(())); MOST_STEPS];
-    put_made(steps, &mut made)?;
+    let (variant, module) = taken(instance, steps, &mut made)?;
     let made = &made[..steps.len()];
     Ok(come_to(alloc, variant, &module, made, offer, request, keys))
 }
@@ -147,8 +168,8 @@ fn come_to<M: Module>(
     ask(alloc, variant, module, made, offer, request, keys)
 }
 
-// Writes what the call came to.
-fn tell(
+/// Writes what the call came to.
+pub fn tell(
     asked: Result<StepsOutcome<Result<Answer, Refusal>>, ReturnStatus>,
     reply: &mut Reply,
     room: &mut [u8],

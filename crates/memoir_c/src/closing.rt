@@ -1,6 +1,6 @@
 //! A checkpoint.
 
-ghost use Rattle.std.specs.Prelude.{◌≡◌, ◌≢◌};
+ghost use Rattle.std.specs.Prelude.{◌≡◌, ◌≢◌, ◌<◌, length};
 ghost use Rattle.memoir_c.specs.Calls.{ClosesTo, IsClosingTold};
 ghost use Rattle.memoir_c.specs.CallReplies.{TellsClosing};
 
@@ -14,6 +14,7 @@ use mm_told::{MadeStep, StepsOutcome, checkpoint};
 pub extern "C" fn memoir_checkpoint(steps: &[Step], step: &mut Step) -> u32
     ensures told { IsClosingTold steps.now step.old step.new result }
     ensures unsaid { result ≢ 16 → step.new ≡ step.old }
+    ensures few { result ≡ 16 → length steps.now < 3 }
 {
     tell(closed(steps), step).code()
 }

@@ -1,11 +1,11 @@
 //! What was sealed last, kept by the host between two calls.
 
-ghost use Rattle.std.specs.Prelude.{◌≡◌, ◌≤◌, ◌<◌, ◌-◌, ◌^◌, List, ℕ, IfSome, length};
+ghost use Rattle.std.specs.Prelude.{◌≡◌, ◌↔◌, ◌≤◌, ◌<◌, ◌-◌, ◌^◌, List, ℕ, IfSome, IsTrue, length};
 ghost use Rattle.mm_digest.specs.Hmac.{hmac_of};
-ghost use Rattle.memoir_c.specs.KeptTexts.{IsText, IsKept};
+ghost use Rattle.memoir_c.specs.KeptTexts.{IsText, IsKept, no_text, nothing_kept};
 
 use mm_call::KeptKey;
-use mm_digest::Digest;
+use mm_digest::{Digest, HmacKey};
 use mm_seal::{SealingKey, TaggedText};
 use std::alloc::Global;
 
@@ -27,17 +27,48 @@ pub struct Kept {
     pub before: Text,
 }
 
-/// Nothing is kept: to begin with, and at any time.
+/// Nothing is kept: to begin with, and at any time. No key is left here; the texts in the memory
+/// are the host's to wipe.
 #[unsafe(no_mangle)]
 pub extern "C" fn memoir_forget(kept: &mut Kept)
-    ensures { (memory : List ℕ) → length memory < 2 ^ 63 → IsKept kept.new memory }
+    ensures kept { (memory : List ℕ) → length memory < 2 ^ 63 → IsKept kept.new memory }
+    ensures forgotten { kept.new ≡ nothing_kept }
 {
     *kept = nothing();
+}
+
+/// Whether the texts in the memory have the tags that are kept of them, under the key that is kept:
+/// 1 where they have, else 0. It takes the two HMACs that keeping them spares.
+#[unsafe(no_mangle)]
+pub extern "C" fn memoir_is_kept(kept: &Kept, memory: &[u8]) -> u8
+    ensures kept { (result ≡ 1) ↔ IsKept kept.now memory.now }
+    ensures bit { result ≤ 1 }
+{
+    u8::from(are_kept(kept, memory))
+}
+
+fn are_kept(kept: &Kept, memory: &[u8]) -> bool
+    ensures { IsTrue result ↔ IsKept kept.now memory.now }
+{
+    let (first, second) = memory.split_at(memory.len() / 2);
+    is_text(&kept.key, &kept.last, first) && is_text(&kept.key, &kept.before, second)
+}
+
+// Whether the text at the front of this memory has its tag.
+fn is_text(key: &[u8; 32], text: &Text, memory: &[u8]) -> bool
+    ensures { IsTrue result ↔ IsText key.now text.now memory.now }
+{
+    if text.length > memory.len() {
+        return true;
+    }
+    let tag = HmacKey::new(key).tag(&memory[..text.length]);
+    tag.bytes == text.tag
 }
 
 fn nothing() -> Kept
     ensures last { result.last.length ≡ 2 ^ 64 - 1 }
     ensures before { result.before.length ≡ 2 ^ 64 - 1 }
+    ensures nothing { result ≡ nothing_kept }
 {
     Kept {
         key: [0; 32],
@@ -47,7 +78,8 @@ fn nothing() -> Kept
 }
 
 fn no_text() -> Text
-    ensures { result.length ≡ 2 ^ 64 - 1 }
+    ensures length { result.length ≡ 2 ^ 64 - 1 }
+    ensures none { result ≡ no_text }
 {
     Text {
         length: usize::MAX,

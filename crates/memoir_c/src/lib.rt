@@ -3,7 +3,9 @@
 #![tactic(auto)]
 
 mod asking;
+mod batch;
 mod closing;
+mod instance;
 mod keeping;
 mod made;
 mod modules;
@@ -13,6 +15,7 @@ mod receipts;
 mod said;
 
 pub use asking::{Instance, Reply};
+pub use instance::CellBytes;
 pub use keeping::{Kept, Text};
 pub use made::Step;
 pub use provisioning::{Keys, ProvisionReply};

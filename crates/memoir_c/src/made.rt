@@ -5,7 +5,7 @@ ghost use Rattle.std.specs.Result.{result_err};
 ghost use Rattle.memoir_c.specs.Steps.{answer_by, IsStep, AreSteps, IsNoStep, HasNoStep, next_step_of};
 
 use crate::said::ReturnStatus;
-use mm_base::CELL_LENGTH;
+use mm_bytes::CELL_LENGTH;
 use mm_digest::Digest;
 use mm_platform::StepFault;
 use mm_told::MadeStep;

@@ -1,7 +1,7 @@
 //! The modules, by name and id.
 
 ghost use Rattle.std.specs.Prelude.{◌≡◌, ◌+◌};
-ghost use Rattle.mm_base.specs.Limits.{limit_of};
+ghost use Rattle.mm_bytes.specs.Limits.{limit_of};
 ghost use Rattle.memoir_c.specs.PlainAnswers.{id_of_name, room_with};
 
 use mm_module::Module;

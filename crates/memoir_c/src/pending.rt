@@ -1,6 +1,7 @@
 //! The record of a request that is pending.
 
-ghost use Rattle.std.specs.Prelude.{◌≡◌, ◌≢◌, IfErr, IfOk};
+ghost use Rattle.std.specs.Prelude.{◌≡◌, ◌≢◌, ◌≤◌, ◌+◌, IfErr, IfOk, length as list_length};
+ghost use Rattle.mm_bytes.specs.Limits.{longest_request};
 ghost use Rattle.std.specs.Option.{option_map};
 ghost use Rattle.mm_store.specs.PendingRecord.{ReadsPendingRecord, pending_spelling};
 ghost use Rattle.mm_store.specs.Records.{pending_of};
@@ -8,7 +9,7 @@ ghost use Rattle.memoir_c.specs.Numbers.{number_of};
 ghost use Rattle.memoir_c.specs.Records.{HasNoRecord, PutsInFront, ReadsRecordOrNone, ReadsBack, RecordsRequest};
 
 use crate::said::ReturnStatus;
-use mm_base::{Bytes, LAST_POSITION};
+use mm_bytes::{Bytes, LAST_POSITION};
 use mm_model::Refusal;
 use mm_module::is_line;
 use mm_store::{PendingRequest, pending_bytes, read_pending};
@@ -32,6 +33,7 @@ pub extern "C" fn memoir_pending(
     }) result }
     ensures unwritten { result ≢ 0 → room.new ≡ room.old }
     ensures unsaid { result ≢ 0 → length.new ≡ length.old }
+    ensures enough { 48 + list_length request.now ≤ list_length room.old → result ≢ 36 }
 {
     put_record(alloc, position, request, length, room).code()
 }
@@ -114,6 +116,7 @@ pub extern "C" fn memoir_read_pending(
     ensures unwritten { result ≢ 0 → room.new ≡ room.old }
     ensures unsaid { result ≢ 0 → length.new ≡ length.old }
     ensures unnumbered { result ≢ 0 → position.new ≡ position.old }
+    ensures enough { longest_request ≤ list_length room.old → result ≢ 36 }
 {
     put_request(slot, bytes, position, length, room).code()
 }

@@ -1,6 +1,7 @@
 //! The first cell and snapshot of an instance.
 
-ghost use Rattle.std.specs.Prelude.{◌≡◌, ◌≢◌, IfErr, IfOk};
+ghost use Rattle.std.specs.Prelude.{◌≡◌, ◌≢◌, ◌≤◌, IfErr, IfOk, length};
+ghost use Rattle.memoir_c.specs.PlainAnswers.{room_with};
 ghost use Rattle.mm_modules.specs.Modules.{meaning_of};
 ghost use Rattle.mm_model.specs.Instance as model;
 ghost use Rattle.mm_call.specs.Standing.{instance_by};
@@ -10,7 +11,7 @@ ghost use Rattle.memoir_c.specs.FirstInstance.{IsMeant, IsUnmade, ProvisionsInst
 use crate::asking::{Instance, parts};
 use crate::said::ReturnStatus;
 use mm_ask::Secrets;
-use mm_base::{CELL_LENGTH, Memory};
+use mm_bytes::{CELL_LENGTH, Memory};
 use mm_call::Provisioned as Made;
 use mm_digest::Variant;
 use mm_model::Refusal;
@@ -50,10 +51,30 @@ pub extern "C" fn memoir_provision(
     }) result }
     ensures unwritten { result ≢ 0 → room.new ≡ room.old }
     ensures unsaid { result ≢ 0 → first.new ≡ first.old }
+    ensures enough { room_with instance.now.«module» ≤ length room.old → result ≢ 36 }
+{
+    put_instance(alloc, instance, keys, first, room).code()
+}
+
+fn put_instance(
+    alloc: Global,
+    instance: &Instance,
+    keys: &Keys,
+    first: &mut ProvisionReply,
+    room: &mut [u8],
+) -> ReturnStatus
+    ensures provisions { ProvisionsInstance instance.now keys.now (record {
+      old = first.old;
+      new = first.new;
+      before = room.old;
+      after = room.new;
+    }) (number_of result) }
+    ensures unwritten { result ≢ ReturnStatus.Done → room.new ≡ room.old }
+    ensures unsaid { result ≢ ReturnStatus.Done → first.new ≡ first.old }
 {
     match made(alloc, instance, keys) {
-        Err(said) => said.code(),
-        Ok(made) => put(&made, first, room).code(),
+        Err(said) => said,
+        Ok(made) => put(&made, first, room),
     }
 }
 

@@ -5,7 +5,7 @@ ghost use Rattle.memoir_c.specs.PlainAnswers.{receipt_status, verification_statu
 ghost use Rattle.memoir_c.specs.Numbers.{number_of};
 
 use crate::said::ReturnStatus;
-use mm_base::LONGEST_REQUEST;
+use mm_bytes::LONGEST_REQUEST;
 use mm_model::Refusal;
 use mm_receipted::{NotReceipt, verify};
 

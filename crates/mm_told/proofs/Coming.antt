@@ -1,5 +1,5 @@
 -- What a call tells that comes to this, and a checkpoint.
-use Rattle.std.proofs.Common.{◌≡◌, ℕ, Bool, true, false, List, [], ◌∷◌, ◌++◌, refl, subst, inl, inr}
+use Rattle.std.proofs.Common.{◌≡◌, ◌∙◌, ◌+◌, ℕ, suc, length, length-append, zero-add, ap, arith, Bool, true, false, List, [], ◌∷◌, ◌++◌, refl, sym, subst, inl, inr}
 use Rattle.std.specs.Prelude.{Some, Result, Ok, Err, IfOk}
 use Rattle.mm_digest.specs.declared.variant.Variant.{Variant}
 use Rattle.mm_digest.specs.declared.variant.Variant.TheVariants.{Basic, Opt}
@@ -15,7 +15,6 @@ use Rattle.mm_module.specs.Batch.{Batch, One}
 use Rattle.mm_module.specs.Meaning.{IsLawful, Meaning}
 use Rattle.mm_model.specs.Fit.{IsFit}
 use Rattle.mm_model.specs.Long.{is_long}
-use Rattle.mm_model.specs.declared.answer.Answer.{Answer}
 use Rattle.mm_model.specs.declared.answer.BatchAnswer.{BatchAnswer}
 use Rattle.mm_model.specs.declared.refusal.Refusal.{Refusal}
 use Rattle.mm_model.specs.declared.refusal.Refusal.TheVariants.{Long, Memory}
@@ -23,7 +22,6 @@ use Rattle.mm_call.specs.AskPromise.{AskPromise}
 use Rattle.mm_call.specs.Completeness.{IsComplete}
 use Rattle.mm_call.specs.Counts.{WritesBy}
 use Rattle.mm_call.specs.EndedCall.{result_of}
-use Rattle.mm_call.specs.Untouched.{batch_result_of}
 use Rattle.mm_call.specs.Machine.{end_of_machine}
 use Rattle.mm_call.specs.UntouchedLaws.{same_untouched}
 use Rattle.mm_flight.proofs.Above.{commits_at}
@@ -39,18 +37,20 @@ use Rattle.mm_told.specs.declared.step.MadeStep.{MadeStep}
 use Rattle.mm_told.specs.declared.step.HostStep.{HostStep}
 use Rattle.mm_told.specs.declared.told.CallProgress.{CallProgress}
 use Rattle.mm_told.specs.declared.told.CallProgress.TheVariants as came
-use Rattle.mm_told.specs.ToldAskPromise.{ToldAskPromise, AskMakesNext, IsAskOnHost, ask_protocol, first_standing, wants_memory}
-use Rattle.mm_told.specs.ToldCheckpointPromise.{ToldCheckpointPromise, checkpoint_protocol}
-use Rattle.mm_told.specs.ToldOutcomes.{IsOne, IsOneIn, IsTold, outcome_if_over, closing_outcome, long_outcome}
+use Rattle.mm_told.specs.ToldAskPromise.{ToldBatchPromise, AskMakesNext, IsAskOnHost, IsWithinRoom, LacksOnHost, ask_protocol, first_standing, wants_memory}
+use Rattle.mm_told.specs.ToldCheckpointPromise.{IsCheckpointOnHost, ToldCheckpointPromise, checkpoint_protocol}
+use Rattle.mm_told.specs.ToldOutcomes.{IsOneIn, closing_outcome, long_outcome, outcome_if_over, told_outcome}
 use Rattle.mm_told.specs.CallPath.{StepsComeTo, StepsReachEnd}
-use Rattle.mm_told.specs.Host.{Host, IsHostOf, bare_standing}
-use Rattle.mm_told.specs.CallProtocol.{AreAsTold, StepsDiffer, StepsLackMemory, TellsOutcome}
-use Rattle.mm_told.specs.Steps.{act_of}
+use Rattle.mm_told.specs.Host.{AreMade, Host, IsHostOf, bare_standing}
+use Rattle.mm_told.specs.CallProtocol.{AreAsTold, StepsDiffer, TellsOutcome}
+use Rattle.mm_told.specs.Steps.{IsMade, act_of}
 use Rattle.mm_told.proofs.Determining.{EndLacks, fits, next_or_over, one_next}
 use Rattle.mm_told.proofs.Missing.{goes_bare}
 use Rattle.mm_told.proofs.Playing.{breaks, finishes}
 use Rattle.mm_told.proofs.Reading.{closing_determined, determined, is_memory, never}
+use Rattle.mm_told.proofs.Shortening.{few_asked, few_closing}
 use Rattle.mm_told.proofs.Shutting.{closed_in}
+use Rattle.mm_told.proofs.Sizing.{answer_small}
 
 -- too long a batch is refused before the first step
 
@@ -77,9 +77,11 @@ asked_long variant meaning at offer b long = record {
 }
 
 -- an answer to one request has one output
-one_in : (request : List ℕ) (result : Result BatchAnswer Refusal) → IfOk result (λ answer. IsFit (One request) answer) → IsOne result
-one_in request (Ok answer) fits = fits.counted
-one_in request (Err why) fits = tt
+pub one_in : (request : List ℕ) (told : StepsOutcome (Result BatchAnswer Refusal)) (variant : Variant) (meaning : Meaning) (host : Host)
+    (steps : List MadeStep) (offer : List ℕ) → ToldBatchPromise variant meaning host steps offer (One request) told → IsOneIn told
+one_in request (outcome.Ended (Ok answer)) variant meaning host steps offer p = p.asked.fits.counted
+one_in request (outcome.Ended (Err why)) variant meaning host steps offer p = tt
+one_in request _ variant meaning host steps offer p = tt
 
 -- where the next step isn't answered
 missed_at : {A : Type 0} (host : Host) (step : HostStep) (stage : OpStage A) → act_of step ≡ machine.act_of stage
@@ -95,61 +97,115 @@ lacked (ended.Answered answer) l = absurd l
 lacked (ended.Broken fault commits) l = absurd l
 lacked ended.Lacks l = absurd l
 
-module _ (variant : Variant) (meaning : Meaning) (offer request : List ℕ) where
+wanted : (given : Result BatchAnswer Refusal) → wants_memory given ≡ true → given ≡ Err Memory
+wanted (Err Memory) e = refl
+wanted _ e = absurd (cc)
+
+-- the front ones of the steps were made, too
+front_made : (stood : ℕ → Standing) (front rest : List MadeStep) → AreMade stood (front ++ rest)
+    → AreMade (λ left. stood (left + length rest)) front
+front_made stood [] rest m = tt
+front_made stood (it ∷ front) rest m =
+    let here : length (front ++ rest) ≡ length front + length rest = length-append front rest in
+    let before : suc (length (front ++ rest)) ≡ suc (length front) + length rest = omega (arith, here) in (
+      subst (λ (n : ℕ). IsMade it (stood n) (stood (length front + length rest))) before
+          (subst (λ (n : ℕ). IsMade it (stood (suc (length (front ++ rest)))) (stood n)) here m.0),
+      front_made stood front rest m.1,
+    )
+
+module _ (variant : Variant) (meaning : Meaning) (offer : List ℕ) (b : Batch) where
+  -- where memory was wanting
+  lacks_on_host : (host : Host) (steps front rest : List MadeStep) (end : OpResult BatchAnswer Refusal) → IsLawful meaning
+      → IsHostOf steps host → is_long b ≡ false → steps ≡ front ++ rest
+      → StepsReachEnd (ask_operation variant meaning offer b) Begun front end
+      → wants_memory (result_of (end_of_machine end)) ≡ true → LacksOnHost variant meaning offer b host steps
+  lacks_on_host host steps front rest end lawful h short are ends lacks =
+      let stood : ℕ → Standing = λ left. host.stood (left + length rest) in
+      let given : result_of (end_of_machine end) ≡ Err Memory = wanted (result_of (end_of_machine end)) lacks in
+      let first : length front + length rest ≡ length steps = sym (ap length are ∙ length-append front rest) in record {
+        front = front;
+        rest = rest;
+        are = are;
+        asked =
+            subst
+            (λ (n : ℕ). AskPromise (ask_call variant) meaning (bare_standing (host.stood n)) (bare_standing (host.stood (length rest)))
+            offer b (Err Memory)) first
+            (subst
+            (λ (n : ℕ). AskPromise (ask_call variant) meaning (bare_standing (stood (length front))) (bare_standing (host.stood n))
+            offer b (Err Memory)) (zero-add (length rest))
+            (subst
+            (λ (r : Result BatchAnswer Refusal). AskPromise (ask_call variant) meaning (bare_standing (stood (length front)))
+            (bare_standing (stood 0)) offer b r) given
+            (asked_whole meaning offer b (bare_standing (stood (length front))) (bare_standing (stood 0)) variant end lawful
+            short
+            (finishes (ask_operation variant meaning offer b) stood Begun front end ends
+            (front_made host.stood front rest (subst (AreMade host.stood) are h.are_made))))));
+      }
+
   -- a host that makes the steps that it is told makes the call's
-  as_told : (steps : List MadeStep) → AreAsTold (ask_protocol variant meaning offer request) steps
-      → StepsDiffer (ask_protocol variant meaning offer request) steps → ⊥
+  as_told : (steps : List MadeStep) → AreAsTold (ask_protocol variant meaning offer b) steps
+      → StepsDiffer (ask_protocol variant meaning offer b) steps → ⊥
   as_told steps =
-      fits (ask_protocol variant meaning offer request) steps
-      (λ front a b m n. one_next is_memory (ask_operation variant meaning offer (One request))
-      (determined variant meaning offer (One request))
-      Begun front a b m.makes n.makes)
+      fits (ask_protocol variant meaning offer b) steps
+      (λ front act other m n. one_next is_memory (ask_operation variant meaning offer b)
+      (determined variant meaning offer b)
+      Begun front act other m.makes n.makes)
       over
     where
-      over : (front : List MadeStep) (a : Act) (given : Result BatchAnswer Refusal) → AskMakesNext variant meaning offer request front a
-          → (ask_protocol variant meaning offer request).gives front given → wants_memory given ≡ true
+      over : (front : List MadeStep) (a : Act) (given : Result BatchAnswer Refusal) → AskMakesNext variant meaning offer b front a
+          → (ask_protocol variant meaning offer b).gives front given → wants_memory given ≡ true
       over front a given m (inl e) =
           rw e.gives
-          (lacked e.end (next_or_over is_memory (ask_operation variant meaning offer (One request))
-          (determined variant meaning offer (One request)) Begun front a e.end m.makes e.ends))
+          (lacked e.end (next_or_over is_memory (ask_operation variant meaning offer b)
+          (determined variant meaning offer b) Begun front a e.end m.makes e.ends))
       over front a given m (inr e) = let no = m.short in let yes = e.long in absurd (cc)
 
   module _ (host : Host) (steps : List MadeStep) where
+    within : IsLawful meaning → (end : OpResult BatchAnswer Refusal) (given : Result BatchAnswer Refusal)
+        → StepsReachEnd (ask_operation variant meaning offer b) Begun steps end → given ≡ result_of (end_of_machine end)
+        → IsWithinRoom meaning (outcome.Ended given)
+    within lawful end (Ok answer) c e = answer_small meaning b lawful variant offer steps end answer c (sym e)
+    within lawful end (Err why) c e = tt
+
     -- what is told, with the rest of what is promised
-    told_so : (told : StepsOutcome (Result Answer Refusal)) → TellsOutcome (ask_protocol variant meaning offer request)
-        batch_result_of steps told
-        → IsAskOnHost variant meaning offer request host steps told → ToldAskPromise variant meaning host steps offer request told
-    told_so (outcome.Ended given) t a = record { tells = t; asked = a; fits = λ same differs. absurd (cc) }
-    told_so (outcome.Next step) t a = record { tells = t; asked = a; fits = λ same differs. absurd (cc) }
-    told_so outcome.Differs t a = record { tells = t; asked = a; fits = λ same differs. as_told steps same t }
-    told_so outcome.Memory t a = record { tells = t; asked = a; fits = λ same differs. absurd (cc) }
+    told_so : (told : StepsOutcome (Result BatchAnswer Refusal)) → TellsOutcome (ask_protocol variant meaning offer b)
+        (λ given. given) steps told
+        → IsAskOnHost variant meaning offer b host steps told → IsWithinRoom meaning told
+        → ToldBatchPromise variant meaning host steps offer b told
+    told_so (outcome.Ended given) t a within =
+        record { tells = t; asked = a; fits = λ same differs. absurd (cc); few = λ step next. absurd (cc); room = within }
+    told_so (outcome.Next one) t a within = record {
+      tells = t;
+      asked = a;
+      fits = λ same differs. absurd (cc);
+      few = λ step next. few_asked meaning offer b variant steps (act_of one) t.makes;
+      room = tt;
+    }
+    told_so outcome.Differs t a within =
+        record { tells = t; asked = a; fits = λ same differs. as_told steps same t; few = λ step next. absurd (cc); room = tt }
+    told_so outcome.Memory t a within =
+        record { tells = t; asked = a; fits = λ same differs. absurd (cc); few = λ step next. absurd (cc); room = tt }
 
     module _ (lawful : IsLawful meaning) (h : IsHostOf steps host) where
       -- by what it comes to
-      module _ (short : is_long (One request) ≡ false) where
-        over_so : (end : OpResult BatchAnswer Refusal) (given : Result Answer Refusal)
-            → StepsReachEnd (ask_operation variant meaning offer (One request)) Begun steps end → batch_result_of given
+      module _ (short : is_long b ≡ false) where
+        over_so : (end : OpResult BatchAnswer Refusal) (given : Result BatchAnswer Refusal)
+            → StepsReachEnd (ask_operation variant meaning offer b) Begun steps end → given
             ≡ result_of (end_of_machine end)
-            → ToldAskPromise variant meaning host steps offer request (outcome.Ended given)
+            → ToldBatchPromise variant meaning host steps offer b (outcome.Ended given)
         over_so end given c e =
-            told_so (outcome.Ended given) (inl (record { short = short; end = end; ends = c; gives = e }))
-            (rw e (asked_whole meaning offer (One request) (first_standing host steps) (bare_standing (host.stood 0))
+            let asked : AskPromise (ask_call variant) meaning (first_standing host steps) (bare_standing (host.stood 0)) offer
+            b given =
+            rw e (asked_whole meaning offer b (first_standing host steps) (bare_standing (host.stood 0))
             variant end lawful short
-            (finishes (ask_operation variant meaning offer (One request)) host.stood Begun steps end c h.are_made)))
-
-        pub one_answer : (told : CallProgress BatchAnswer Refusal)
-            → StepsComeTo (ask_operation variant meaning offer (One request)) Begun steps told
-            → IsOneIn told
-        one_answer (came.Over end) c =
-            one_in request (result_of (end_of_machine end))
-            (asked_whole meaning offer (One request) (first_standing host steps) (bare_standing (host.stood 0)) variant end lawful short
-            (finishes (ask_operation variant meaning offer (One request)) host.stood Begun steps end c h.are_made)).fits
-        one_answer _ c = tt
+            (finishes (ask_operation variant meaning offer b) host.stood Begun steps end c h.are_made)) in
+            told_so (outcome.Ended given) (inl (record { short = short; end = end; ends = c; gives = e })) asked
+            (within lawful end given c e)
 
         before_so : (lacking : Bool) (front rest : List MadeStep) (it : MadeStep) (end : OpResult BatchAnswer Refusal)
-            → steps ≡ front ++ it ∷ rest → StepsReachEnd (ask_operation variant meaning offer (One request)) Begun front end
+            → steps ≡ front ++ it ∷ rest → StepsReachEnd (ask_operation variant meaning offer b) Begun front end
             → wants_memory (result_of (end_of_machine end)) ≡ lacking
-            → ToldAskPromise variant meaning host steps offer request (outcome_if_over lacking)
+            → ToldBatchPromise variant meaning host steps offer b (outcome_if_over lacking)
         before_so false front rest it end are ends e =
             told_so outcome.Differs (record {
               front = front;
@@ -161,7 +217,7 @@ module _ (variant : Variant) (meaning : Meaning) (offer request : List ℕ) wher
                 gives = inl (record { short = short; end = end; ends = ends; gives = refl });
                 lacks = e;
               });
-            }) tt
+            }) tt tt
         before_so true front rest it end are ends e =
             told_so outcome.Memory (record {
               front = front;
@@ -172,23 +228,22 @@ module _ (variant : Variant) (meaning : Meaning) (offer request : List ℕ) wher
                 gives = inl (record { short = short; end = end; ends = ends; gives = refl });
                 lacks = e;
               };
-            }) tt
+            }) (lacks_on_host host steps front (it ∷ rest) end lawful h short are ends e) tt
 
-        pub asks : (told : CallProgress BatchAnswer Refusal) (out : StepsOutcome (Result Answer Refusal))
-            → StepsComeTo (ask_operation variant meaning offer (One request)) Begun steps told → IsTold told out
-            → ToldAskPromise variant meaning host steps offer request out
-        asks (came.Next step) out c t =
-            rw t (told_so (outcome.Next step) (record { short = short; makes = c })
-            (asked_whole meaning offer (One request) (first_standing host steps) (bare_standing (host.missed 0 (act_of step))) variant
-            (ended.Broken Off (commits_at (ask_operation variant meaning offer (One request)) c.stage)) lawful short
-            (breaks (ask_operation variant meaning offer (One request)) host.stood Begun steps c.stage
+        pub asks : (told : CallProgress BatchAnswer Refusal) → StepsComeTo (ask_operation variant meaning offer b) Begun steps told
+            → ToldBatchPromise variant meaning host steps offer b (told_outcome told)
+        asks (came.Next step) c =
+            (told_so (outcome.Next step) (record { short = short; makes = c })
+            (asked_whole meaning offer b (first_standing host steps) (bare_standing (host.missed 0 (act_of step))) variant
+            (ended.Broken Off (commits_at (ask_operation variant meaning offer b) c.stage)) lawful short
+            (breaks (ask_operation variant meaning offer b) host.stood Begun steps c.stage
             (host.missed 0 (act_of step)) c.stands
-            h.are_made (missed_at host step c.stage c.next))))
-        asks (came.Over end) out c t = rw t.is (over_so end t.answer c t.gives)
-        asks (came.Before end) out c t =
-            rw t (before_so (wants_memory (result_of (end_of_machine end))) c.front c.rest c.it end c.are c.ends refl)
-        asks came.Elsewhere out c t =
-            rw t (told_so outcome.Differs (record {
+            h.are_made (missed_at host step c.stage c.next))) tt)
+        asks (came.Over end) c = over_so end (result_of (end_of_machine end)) c refl
+        asks (came.Before end) c =
+            before_so (wants_memory (result_of (end_of_machine end))) c.front c.rest c.it end c.are c.ends refl
+        asks came.Elsewhere c =
+            (told_so outcome.Differs (record {
               front = c.front;
               it = c.it;
               rest = c.rest;
@@ -198,14 +253,40 @@ module _ (variant : Variant) (meaning : Meaning) (offer request : List ℕ) wher
                 next = record { short = short; makes = record { stage = c.stage; stands = c.stands; next = refl } };
                 other = c.other;
               });
-            }) tt)
+            }) tt tt)
+
+  -- what is told by the steps is the call on each platform on which they were made
+  pub on_host : (host : Host) (steps : List MadeStep) (told : StepsOutcome (Result BatchAnswer Refusal)) → IsLawful meaning
+      → IsHostOf steps host → TellsOutcome (ask_protocol variant meaning offer b) (λ given. given) steps told
+      → IsAskOnHost variant meaning offer b host steps told
+  on_host host steps (outcome.Ended given) lawful h (inl e) =
+      rw e.gives (asked_whole meaning offer b (first_standing host steps) (bare_standing (host.stood 0))
+      variant e.end lawful e.short
+      (finishes (ask_operation variant meaning offer b) host.stood Begun steps e.end e.ends h.are_made))
+  on_host host steps (outcome.Ended given) lawful h (inr e) =
+      rw e.gives (rw e.none (asked_long variant meaning (bare_standing (host.stood 0)) offer b e.long))
+  on_host host steps (outcome.Next step) lawful h t =
+      asked_whole meaning offer b (first_standing host steps) (bare_standing (host.missed 0 (act_of step))) variant
+      (ended.Broken Off (commits_at (ask_operation variant meaning offer b) t.makes.stage)) lawful t.short
+      (breaks (ask_operation variant meaning offer b) host.stood Begun steps t.makes.stage
+      (host.missed 0 (act_of step)) t.makes.stands h.are_made (missed_at host step t.makes.stage t.makes.next))
+  on_host host steps outcome.Differs lawful h t = tt
+  on_host host steps outcome.Memory lawful h t = by_end t.over.gives
+    where
+      by_end : (ask_protocol variant meaning offer b).gives t.front t.over.given → LacksOnHost variant meaning offer b host steps
+      by_end (inl e) =
+          lacks_on_host host steps t.front t.rest e.end lawful h e.short t.are e.ends
+          (subst (λ (r : Result BatchAnswer Refusal). wants_memory r ≡ true) e.gives t.over.lacks)
+      by_end (inr e) =
+          let no : wants_memory (Err Long) ≡ true =
+          subst (λ (r : Result BatchAnswer Refusal). wants_memory r ≡ true) e.gives t.over.lacks in absurd (cc)
 
   -- too long a request
-  pub long_so : (host : Host) (steps : List MadeStep) → is_long (One request) ≡ true
-      → ToldAskPromise variant meaning host steps offer request (long_outcome steps)
+  pub long_so : (host : Host) (steps : List MadeStep) → is_long b ≡ true
+      → ToldBatchPromise variant meaning host steps offer b (long_outcome steps)
   long_so host [] long =
       told_so host [] (outcome.Ended (Err Long)) (inr (record { long = long; none = refl; gives = refl }))
-      (asked_long variant meaning (bare_standing (host.stood 0)) offer (One request) long)
+      (asked_long variant meaning (bare_standing (host.stood 0)) offer b long) tt
   long_so host (it ∷ more) long =
       told_so host (it ∷ more) outcome.Differs (record {
         front = [];
@@ -213,7 +294,7 @@ module _ (variant : Variant) (meaning : Meaning) (offer request : List ℕ) wher
         rest = more;
         are = refl;
         other = inr (record { given = Err Long; gives = inr (record { long = long; none = refl; gives = refl }); lacks = refl });
-      }) tt
+      }) tt tt
 
 -- a checkpoint
 
@@ -229,7 +310,8 @@ closing_as_told steps =
 
 module _ (host : Host) (steps : List MadeStep) (h : IsHostOf steps host) where
   closing_differs : StepsDiffer checkpoint_protocol steps → ToldCheckpointPromise host steps outcome.Differs
-  closing_differs d = record { tells = d; closed = tt; fits = λ same differs. closing_as_told steps same d }
+  closing_differs d =
+      record { tells = d; closed = tt; fits = λ same differs. closing_as_told steps same d; few = λ step next. absurd (cc) }
 
   pub closes : (told : CallProgress Checkpointed CheckpointRefusal) → StepsComeTo closing_operation Begun steps told
       → ToldCheckpointPromise host steps (closing_outcome told)
@@ -240,12 +322,14 @@ module _ (host : Host) (steps : List MadeStep) (h : IsHostOf steps host) where
         (breaks closing_operation host.stood Begun steps c.stage (host.missed 0 (act_of step)) c.stands h.are_made
         (missed_at host step c.stage c.next));
     fits = λ same differs. absurd (cc);
+    few = λ one next. few_closing steps (act_of step) c;
   }
   closes (came.Over end) c = record {
     tells = record { end = end; ends = c; gives = refl };
     closed = closed_in (first_standing host steps) (bare_standing (host.stood 0)) end
         (finishes closing_operation host.stood Begun steps end c h.are_made);
     fits = λ same differs. absurd (cc);
+    few = λ step next. absurd (cc);
   }
   closes (came.Before end) c =
       closing_differs (record {
@@ -271,3 +355,18 @@ module _ (host : Host) (steps : List MadeStep) (h : IsHostOf steps host) where
           other = c.other;
         });
       })
+
+-- and of a checkpoint
+pub closing_on_host : (host : Host) (steps : List MadeStep) (told : StepsOutcome (Result Checkpointed CheckpointRefusal))
+    → IsHostOf steps host → TellsOutcome checkpoint_protocol (λ given. given) steps told
+    → IsCheckpointOnHost host steps told
+closing_on_host host steps (outcome.Ended given) h e =
+    rw e.gives (closed_in (first_standing host steps) (bare_standing (host.stood 0)) e.end
+    (finishes closing_operation host.stood Begun steps e.end e.ends h.are_made))
+closing_on_host host steps (outcome.Next step) h c =
+    closed_in (first_standing host steps) (bare_standing (host.missed 0 (act_of step)))
+    (ended.Broken Off (commits_at closing_operation c.stage))
+    (breaks closing_operation host.stood Begun steps c.stage (host.missed 0 (act_of step)) c.stands h.are_made
+    (missed_at host step c.stage c.next))
+closing_on_host host steps outcome.Differs h t = tt
+closing_on_host host steps outcome.Memory h t = let lacks : false ≡ true = t.over.lacks in absurd (cc)

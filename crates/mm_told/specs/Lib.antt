@@ -5,4 +5,5 @@ pub mod CallPath
 pub mod CallProtocol
 pub mod ToldAskPromise
 pub mod ToldCheckpointPromise
+pub mod CallsOnHosts
 pub mod ToldOutcomes

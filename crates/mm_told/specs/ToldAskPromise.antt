@@ -1,12 +1,14 @@
 -- What a call promises whose steps a host makes.
-use Rattle.std.specs.Prelude.{◌≡◌, ◌≢◌, ◌⊎◌, ℕ, Bool, true, false, List, [], length, Result, Err}
+use Rattle.std.specs.Prelude.{◌≡◌, ◌≢◌, ◌+◌, ◌<◌, ◌≤◌, ◌⊎◌, ℕ, Bool, true, false, List, [], ◌++◌, length, Result, Ok, Err}
+use Rattle.mm_bytes.specs.Limits.{limit_of}
 use Rattle.mm_digest.specs.declared.variant.Variant.{Variant}
+use Rattle.mm_digest.specs.declared.variant.Variant.TheVariants.{Basic, Opt}
 use Rattle.mm_platform.specs.Standing.{Standing}
 use Rattle.mm_platform.specs.Steps.{Act}
 use Rattle.mm_platform.specs.declared.fault.StepFault.TheVariants.{Off}
 use Rattle.mm_machine.specs.declared.call.OpResult.{OpResult}
 use Rattle.mm_machine.specs.declared.call.OpStage.TheVariants.{Begun}
-use Rattle.mm_module.specs.Batch.{One}
+use Rattle.mm_module.specs.Batch.{Batch, One}
 use Rattle.mm_module.specs.Meaning.{Meaning}
 use Rattle.mm_model.specs.Long.{is_long}
 use Rattle.mm_model.specs.declared.answer.Answer.{Answer}
@@ -21,6 +23,7 @@ use Rattle.mm_ask.specs.WholeAsk.{ask_call}
 use Rattle.mm_ask.specs.Operating.{ask_operation}
 use Rattle.mm_told.specs.declared.outcome.StepsOutcome.{StepsOutcome}
 use Rattle.mm_told.specs.declared.outcome.StepsOutcome.TheVariants as outcome
+use Rattle.mm_told.specs.declared.step.HostStep.{HostStep}
 use Rattle.mm_told.specs.declared.step.MadeStep.{MadeStep}
 use Rattle.mm_told.specs.CallPath.{StepsReachEnd, IsNextStep}
 use Rattle.mm_told.specs.Steps.{act_of}
@@ -31,26 +34,45 @@ use Rattle.mm_told.specs.CallProtocol.{CallProtocol, TellsOutcome, AreAsTold}
 abbrev pub first_standing : Host → List MadeStep → Standing
 first_standing host steps = bare_standing (host.stood (length steps))
 
+-- the most steps that a call makes
+abbrev pub most_steps : Variant → ℕ
+most_steps Basic = 2
+most_steps Opt = 5
+
+-- a snapshot that a call gives is no longer than the longest state and 114 bytes
+abbrev pub IsWithinRoom : Meaning → StepsOutcome (Result BatchAnswer Refusal) → Type 0
+IsWithinRoom meaning (outcome.Ended (Ok answer)) =
+    length answer.snapshot ≤ 114 + limit_of meaning.id
+IsWithinRoom meaning _ = Unit {0}
+
+-- what a call of one request comes to, as of a batch of one
+abbrev pub outcome_of_one : StepsOutcome (Result Answer Refusal)
+    → StepsOutcome (Result BatchAnswer Refusal)
+outcome_of_one (outcome.Ended given) = outcome.Ended (batch_result_of given)
+outcome_of_one (outcome.Next step) = outcome.Next step
+outcome_of_one outcome.Differs = outcome.Differs
+outcome_of_one outcome.Memory = outcome.Memory
+
 -- memory was wanting
 abbrev pub wants_memory : Result BatchAnswer Refusal → Bool
 wants_memory (Err Memory) = true
 wants_memory _ = false
 
-module _ (variant : Variant) (meaning : Meaning) (offer request : List ℕ) where
+module _ (variant : Variant) (meaning : Meaning) (offer : List ℕ) (b : Batch) where
   -- a call makes this step behind these, if its request isn't too long
   pub record AskMakesNext (steps : List MadeStep) (act : Act) : Type 0 where
-    pub short : is_long (One request) ≡ false
-    pub makes : IsNextStep (ask_operation variant meaning offer (One request)) Begun steps act
+    pub short : is_long b ≡ false
+    pub makes : IsNextStep (ask_operation variant meaning offer b) Begun steps act
 
   -- with the last of these it ended, and gives this; too long a request is refused before the first
   pub record AskEndsWith (steps : List MadeStep) (given : Result BatchAnswer Refusal) : Type 0 where
-    pub short : is_long (One request) ≡ false
+    pub short : is_long b ≡ false
     pub end : OpResult BatchAnswer Refusal
-    pub ends : StepsReachEnd (ask_operation variant meaning offer (One request)) Begun steps end
+    pub ends : StepsReachEnd (ask_operation variant meaning offer b) Begun steps end
     pub gives : given ≡ result_of (end_of_machine end)
 
   pub record IsTooLong (steps : List MadeStep) (given : Result BatchAnswer Refusal) : Type 0 where
-    pub long : is_long (One request) ≡ true
+    pub long : is_long b ≡ true
     pub none : steps ≡ []
     pub gives : given ≡ Err Long
 
@@ -62,27 +84,49 @@ module _ (variant : Variant) (meaning : Meaning) (offer request : List ℕ) wher
     lacks = wants_memory;
   }
 
+  -- Memory was wanting behind the front ones of these steps: they are a call over the host's
+  -- platform that was refused for that, and changed nothing. The others did what they did.
+  pub record LacksOnHost (host : Host) (steps : List MadeStep) : Type 0 where
+    pub front : List MadeStep
+    pub rest : List MadeStep
+    pub are : steps ≡ front ++ rest
+    pub asked : AskPromise (ask_call variant) meaning (first_standing host steps)
+        (bare_standing (host.stood (length rest))) offer
+        b (Err Memory)
+
   -- Where the call is over, it is the call over the host's platform. Where it makes a step next,
   -- the call over the host's platform makes these steps, and then that one: if no answer comes to
   -- that, it is broken off there.
-  abbrev pub IsAskOnHost : Host → List MadeStep → StepsOutcome (Result Answer Refusal) → Type 0
+  abbrev pub IsAskOnHost : Host → List MadeStep → StepsOutcome (Result BatchAnswer Refusal)
+      → Type 0
   IsAskOnHost host steps (outcome.Ended given) =
       AskPromise (ask_call variant) meaning (first_standing host steps)
       (bare_standing (host.stood 0)) offer
-      (One request) (batch_result_of given)
+      b given
   IsAskOnHost host steps (outcome.Next step) =
       AskPromise (ask_call variant) meaning (first_standing host steps)
       (bare_standing (host.missed 0 (act_of step)))
-      offer (One request) (Err (Device Off))
-  IsAskOnHost host steps _ = Unit {0}
+      offer b (Err (Device Off))
+  IsAskOnHost host steps outcome.Memory = LacksOnHost host steps
+  IsAskOnHost host steps outcome.Differs = Unit {0}
 
 -- What a call comes to with the steps that were made.
-pub record ToldAskPromise (variant : Variant) (meaning : Meaning) (host : Host)
+pub record ToldBatchPromise (variant : Variant) (meaning : Meaning) (host : Host)
     (steps : List MadeStep)
-    (offer request : List ℕ) (came : StepsOutcome (Result Answer Refusal)) : Type 0 where
+    (offer : List ℕ) (b : Batch) (came : StepsOutcome (Result BatchAnswer Refusal)) : Type 0 where
   -- what it tells, by what the devices answered
-  pub tells : TellsOutcome (ask_protocol variant meaning offer request) batch_result_of steps came
+  pub tells : TellsOutcome (ask_protocol variant meaning offer b) (λ given. given) steps came
   -- over the host's platform it is a whole call
-  pub asked : IsAskOnHost variant meaning offer request host steps came
+  pub asked : IsAskOnHost variant meaning offer b host steps came
   -- a host that makes the steps that it is told never hears Differs
-  pub fits : AreAsTold (ask_protocol variant meaning offer request) steps → came ≢ outcome.Differs
+  pub fits : AreAsTold (ask_protocol variant meaning offer b) steps → came ≢ outcome.Differs
+  -- where it wants another step, fewer than the most were made
+  pub few : (step : HostStep) → came ≡ outcome.Next step → length steps < most_steps variant
+  -- the room that an answer takes
+  pub room : IsWithinRoom meaning came
+
+-- the same of a call of one request
+abbrev pub ToldAskPromise : Variant → Meaning → Host → List MadeStep → (offer request : List ℕ)
+    → StepsOutcome (Result Answer Refusal) → Type 0
+ToldAskPromise variant meaning host steps offer request came =
+    ToldBatchPromise variant meaning host steps offer (One request) (outcome_of_one came)

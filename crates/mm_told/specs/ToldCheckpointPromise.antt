@@ -1,5 +1,5 @@
 -- What a checkpoint promises whose steps a host makes.
-use Rattle.std.specs.Prelude.{◌≡◌, ◌≢◌, false, List, Result, Err}
+use Rattle.std.specs.Prelude.{◌≡◌, ◌≢◌, ◌<◌, false, List, length, Result, Err}
 use Rattle.mm_platform.specs.declared.fault.StepFault.TheVariants.{Off}
 use Rattle.mm_machine.specs.declared.call.OpResult.{OpResult}
 use Rattle.mm_machine.specs.declared.call.OpStage.TheVariants.{Begun}
@@ -10,6 +10,7 @@ use Rattle.mm_opt.specs.declared.segment.CheckpointRefusal.{CheckpointRefusal}
 use Rattle.mm_opt.specs.declared.segment.CheckpointRefusal.TheVariants.{Device}
 use Rattle.mm_told.specs.declared.outcome.StepsOutcome.{StepsOutcome}
 use Rattle.mm_told.specs.declared.outcome.StepsOutcome.TheVariants as outcome
+use Rattle.mm_told.specs.declared.step.HostStep.{HostStep}
 use Rattle.mm_told.specs.declared.step.MadeStep.{MadeStep}
 use Rattle.mm_told.specs.CallPath.{StepsReachEnd, IsNextStep}
 use Rattle.mm_told.specs.Steps.{act_of}
@@ -50,3 +51,5 @@ pub record ToldCheckpointPromise (host : Host) (steps : List MadeStep)
   pub closed : IsCheckpointOnHost host steps came
   -- a host that makes the steps that it is told never hears Differs
   pub fits : AreAsTold checkpoint_protocol steps → came ≢ outcome.Differs
+  -- a checkpoint makes at most three steps
+  pub few : (step : HostStep) → came ≡ outcome.Next step → length steps < 3

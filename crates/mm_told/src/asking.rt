@@ -2,8 +2,9 @@
 
 ghost use Rattle.std.specs.Prelude.{◌≡◌};
 ghost use Rattle.mm_call.specs.Untouched.{batch_result_of};
-ghost use Rattle.mm_told.specs.ToldAskPromise.{ToldAskPromise, wants_memory};
-ghost use Rattle.mm_told.specs.ToldOutcomes.{IsOne, IsOneIn, IsTold, outcome_if_over, long_outcome};
+ghost use Rattle.mm_module.specs.Batches.{batch_of};
+ghost use Rattle.mm_told.specs.ToldAskPromise.{ToldAskPromise, ToldBatchPromise, outcome_of_one, wants_memory};
+ghost use Rattle.mm_told.specs.ToldOutcomes.{IsOne, IsOneIn, told_outcome, outcome_if_over, long_outcome};
 ghost use Rattle.mm_told.specs.Host.{Host, IsHostOf};
 
 use crate::outcome::StepsOutcome;
@@ -37,6 +38,24 @@ pub fn ask<M: Module>(
         request.now result }
 {
     let batch = Batch::One(request);
+    one(ask_batch(alloc, variant, module, made, offer, batch, keys))
+}
+
+/// The same of a call that asks for a batch.
+pub fn ask_batch<M: Module>(
+    alloc: Global,
+    variant: Variant,
+    module: &M,
+    made: &[MadeStep],
+    offer: &[u8],
+    batch: Batch<'_>,
+    keys: &mut KeptKey,
+) -> StepsOutcome<Result<BatchAnswer, Refusal>>
+    ghost host: { Host }
+    requires { IsHostOf made.now host }
+    ensures { ToldBatchPromise variant (M.meaning «module».now) host made.now offer.now
+        (batch_of batch.entry) result }
+{
     if mm_model::is_long(&batch) {
         return too_long(made);
     }
@@ -50,8 +69,8 @@ pub fn ask<M: Module>(
     told(tell(&ask, OpStage::Begun, made, keys))
 }
 
-// Too long a request is refused before the first step.
-fn too_long(made: &[MadeStep]) -> StepsOutcome<Result<Answer, Refusal>>
+// Too long a batch is refused before the first step.
+fn too_long(made: &[MadeStep]) -> StepsOutcome<Result<BatchAnswer, Refusal>>
     ensures { result ≡ long_outcome made.now }
 {
     if made.is_empty() {
@@ -61,16 +80,28 @@ fn too_long(made: &[MadeStep]) -> StepsOutcome<Result<Answer, Refusal>>
     }
 }
 
-// A call of one request, as it is told.
-fn told(came: CallProgress<BatchAnswer, Refusal>) -> StepsOutcome<Result<Answer, Refusal>>
-    requires { IsOneIn came }
-    ensures { IsTold came result }
+// A call, as it is told.
+fn told(came: CallProgress<BatchAnswer, Refusal>) -> StepsOutcome<Result<BatchAnswer, Refusal>>
+    ensures { result ≡ told_outcome came }
 {
     match came {
         CallProgress::Next(step) => StepsOutcome::Next(step),
-        CallProgress::Over(end) => StepsOutcome::Ended(whole(AskResult::of(end).result())),
+        CallProgress::Over(end) => StepsOutcome::Ended(AskResult::of(end).result()),
         CallProgress::Before(end) => before(AskResult::of(end).result()),
         CallProgress::Elsewhere => StepsOutcome::Differs,
+    }
+}
+
+// What a call comes to that asks for one request.
+fn one(came: StepsOutcome<Result<BatchAnswer, Refusal>>) -> StepsOutcome<Result<Answer, Refusal>>
+    requires { IsOneIn came }
+    ensures { outcome_of_one result ≡ came }
+{
+    match came {
+        StepsOutcome::Ended(given) => StepsOutcome::Ended(whole(given)),
+        StepsOutcome::Next(step) => StepsOutcome::Next(step),
+        StepsOutcome::Differs => StepsOutcome::Differs,
+        StepsOutcome::Memory => StepsOutcome::Memory,
     }
 }
 
@@ -86,7 +117,7 @@ fn whole(given: Result<BatchAnswer, Refusal>) -> Result<Answer, Refusal>
 }
 
 // The call was over before, and gave this.
-fn before(given: Result<BatchAnswer, Refusal>) -> StepsOutcome<Result<Answer, Refusal>>
+fn before(given: Result<BatchAnswer, Refusal>) -> StepsOutcome<Result<BatchAnswer, Refusal>>
     ensures { result ≡ outcome_if_over (wants_memory given) }
 {
     match given {

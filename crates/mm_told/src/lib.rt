@@ -5,14 +5,16 @@
 mod asking;
 mod closing;
 mod hosting;
+mod laws;
 mod making;
 mod outcome;
 mod step;
 mod told;
 
-pub use asking::ask;
+pub use asking::{ask, ask_batch};
 pub use closing::checkpoint;
 pub use hosting::ask_by_steps;
+pub use laws::told_calls_are_calls;
 pub use making::make;
 pub use outcome::StepsOutcome;
 pub use step::{HostStep, MadeStep};

@@ -7,7 +7,7 @@ ghost use Rattle.mm_told.specs.Host.{bare_standing};
 ghost use Rattle.mm_told.specs.Steps.{act_of, made_act, IsMade};
 
 use crate::step::{HostStep, MadeStep};
-use mm_base::{CELL_LENGTH, Memory};
+use mm_bytes::{CELL_LENGTH, Memory};
 use mm_digest::Digest;
 use mm_platform::{Platform, StepFault};
 

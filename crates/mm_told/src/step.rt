@@ -4,7 +4,7 @@ ghost use Rattle.std.specs.Prelude.{◌≡◌, ◌↔◌, IsTrue};
 ghost use Rattle.mm_platform.specs.Steps.{WriteCell, ExtendRegister};
 ghost use Rattle.mm_told.specs.Steps.{act_of, made_act};
 
-use mm_base::CELL_LENGTH;
+use mm_bytes::CELL_LENGTH;
 use mm_digest::Digest;
 use mm_platform::StepFault;
 

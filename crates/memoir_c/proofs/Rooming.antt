@@ -1,0 +1,163 @@
+-- The room that is enough for what is written.
+use Rattle.std.proofs.Common.{◌≡◌, ◌∙◌, ℕ, ◌+◌, ◌<◌, ◌≤◌, List, [], length, refl, sym, subst, inl, inr, arith, length-append}
+use Rattle.std.specs.Prelude.{Option, None, Some, Result, Ok, Err}
+use Rattle.std.proofs.lemmas.List.Elements.{All-head}
+use Rattle.mm_bytes.specs.Limits.{limit_of, longest_request}
+use Rattle.mm_digest.specs.declared.variant.Variant.{Variant}
+use Rattle.mm_digest.specs.declared.variant.Variant.TheVariants.{Basic, Opt}
+use Rattle.mm_module.specs.Meaning.{IsLawful, IsLine, Meaning}
+use Rattle.mm_modules.proofs.Above.{id_spelled}
+use Rattle.mm_modules.specs.Modules.{meaning_of, module_of_id}
+use Rattle.mm_modules.specs.ModulesLaws.{any_is_lawful}
+use Rattle.mm_modules.specs.declared.any.AnyModule.{AnyModule}
+use Rattle.mm_model.specs.Below.{length-sha256}
+use Rattle.mm_model.specs.Codes.{code_of}
+use Rattle.mm_model.specs.History.{first_history}
+use Rattle.mm_model.specs.Instance as model
+use Rattle.mm_model.specs.Places.{content_of_issue}
+use Rattle.mm_model.specs.declared.answer.Answer.{Answer}
+use Rattle.mm_model.specs.declared.refusal.Refusal.{Refusal}
+use Rattle.mm_model.specs.declared.refusal.Refusal.TheVariants as refusal
+use Rattle.mm_call.specs.OfferLaws.{basic_content, opt_content}
+use Rattle.mm_call.specs.Standing.{instance_by}
+use Rattle.mm_store.proofs.Above.{length-pending_front}
+use Rattle.mm_store.specs.PendingRecord.{PendingRecord, pending_front, pending_spelling}
+use Rattle.mm_told.proofs.Above.{sealed_most}
+use Rattle.mm_told.specs.declared.outcome.StepsOutcome.{StepsOutcome}
+use Rattle.mm_told.specs.declared.outcome.StepsOutcome.TheVariants as outcome
+use Rattle.memoir_c.specs.declared.asking.Instance.{Instance}
+use Rattle.memoir_c.specs.declared.made.Step.{Step}
+use Rattle.memoir_c.specs.declared.said.ReturnStatus.{ReturnStatus}
+use Rattle.memoir_c.specs.declared.said.ReturnStatus.TheVariants as said
+use Rattle.memoir_c.specs.declared.provisioning.Keys.{Keys}
+use Rattle.memoir_c.specs.Calls.{CallGives}
+use Rattle.memoir_c.specs.CallReplies.{ReplyState, TellsCallOutcome}
+use Rattle.memoir_c.specs.FirstInstance.{IsUnmade, ProvisionMemory, ProvisionsInstance, PutsInstance, first_snapshot}
+use Rattle.memoir_c.specs.Numbers.{number_of}
+use Rattle.memoir_c.specs.PlainAnswers.{room_with}
+use Rattle.memoir_c.specs.Records.{HasNoRecord, PutsInFront, ReadsRecordOrNone, RecordsRequest, RoomState}
+use Rattle.memoir_c.proofs.Shortening.{IsOfPassed, no_call, no_instance}
+
+-- its number says that there is too little room, and no other does
+refused_else : (why : Refusal) → code_of why ≡ 36 → ⊥
+refused_else (refusal.Device fault) e = absurd (omega (arith, e))
+refused_else refusal.Memory e = absurd (omega (arith, e))
+refused_else refusal.Long e = absurd (omega (arith, e))
+refused_else refusal.Blank e = absurd (omega (arith, e))
+refused_else refusal.Cell e = absurd (omega (arith, e))
+refused_else refusal.Lost e = absurd (omega (arith, e))
+refused_else refusal.Form e = absurd (omega (arith, e))
+refused_else refusal.Kind e = absurd (omega (arith, e))
+refused_else refusal.State e = absurd (omega (arith, e))
+refused_else refusal.Tag e = absurd (omega (arith, e))
+refused_else refusal.Stale e = absurd (omega (arith, e))
+refused_else refusal.Full e = absurd (omega (arith, e))
+
+pub only_room : (says : ReturnStatus) → number_of says ≡ 36 → says ≡ said.NoRoom
+only_room said.NoRoom e = refl
+only_room (said.Refused why) e = absurd (refused_else why e)
+only_room said.Done e = absurd (omega (arith, e))
+only_room said.Next e = absurd (omega (arith, e))
+only_room said.Differs e = absurd (omega (arith, e))
+only_room said.NoSegment e = absurd (omega (arith, e))
+only_room said.NoVariant e = absurd (omega (arith, e))
+only_room said.NoModule e = absurd (omega (arith, e))
+only_room said.TooMany e = absurd (omega (arith, e))
+only_room said.NoStep e = absurd (omega (arith, e))
+only_room said.NoKey e = absurd (omega (arith, e))
+only_room said.NoPosition e = absurd (omega (arith, e))
+
+-- the room of a module that is found
+pub room_is : (id : ℕ) (it : AnyModule) → module_of_id id ≡ Some it → room_with id ≡ 4210 + limit_of (meaning_of it).id
+room_is id it found = rw found (rw (id_spelled id it found) (omega arith))
+
+pub over : (whole output snapshot limit room : ℕ) → whole ≡ output + snapshot → output ≤ 4096 → snapshot ≤ 114 + limit → room < whole
+    → 4210 + limit ≤ room → ⊥
+over whole output snapshot limit room e o s short enough = omega arith
+
+module _ (instance : Instance) (steps : List Step) (offer request : List ℕ) where
+  -- a call has room
+  pub enough_by : (asked : Result (StepsOutcome (Result Answer Refusal)) ReturnStatus) (left : ReplyState)
+      → CallGives instance steps offer request asked → TellsCallOutcome asked left → room_with instance.«module» ≤ length left.old.room
+      → left.says ≡ said.NoRoom → ⊥
+  enough_by (Err why) left c t h e = subst IsOfPassed (sym t.says ∙ e) (no_call instance steps why c)
+  enough_by (Ok (outcome.Ended (Ok answer))) left c (inl t) h e = let f : left.says ≡ said.Done = t.says in absurd (cc)
+  enough_by (Ok (outcome.Ended (Ok answer))) left c (inr t) h e =
+      over _ (length answer.output) (length answer.snapshot) (limit_of (meaning_of c.parts.1).id) (length left.old.room)
+      (length-append answer.output answer.snapshot)
+      (All-head IsLine answer.output [] c.asks.asked.fits.lines).short c.asks.room t.short
+      (subst (λ (n : ℕ). n ≤ length left.old.room) (room_is instance.«module» c.parts.1 c.are_parts.1) h)
+  enough_by (Ok (outcome.Ended (Err why))) left c t h e = let f : left.says ≡ said.Refused why = t.says in absurd (cc)
+  enough_by (Ok (outcome.Next step)) left c t h e = let f : left.says ≡ said.Next = t.says in absurd (cc)
+  enough_by (Ok outcome.Differs) left c t h e = let f : left.says ≡ said.Differs = t.says in absurd (cc)
+  enough_by (Ok outcome.Memory) left c t h e = let f : left.says ≡ said.Refused refusal.Memory = t.says in absurd (cc)
+
+-- a first snapshot
+first_most : (variant : Variant) (meaning : Meaning) (key barrier : List ℕ) → IsLawful meaning
+    → length (first_snapshot (instance_by variant meaning key barrier)) ≤ 114 + limit_of meaning.id
+first_most Basic meaning key barrier lawful = sealed_most key _ (basic_content meaning lawful key first_history (omega arith))
+first_most Opt meaning key barrier lawful = sealed_most key _ (opt_content meaning lawful key barrier first_history (omega arith))
+
+pub first_enough : (id : ℕ) (variant : Variant) (it : AnyModule) (key barrier : List ℕ) (room : ℕ) → module_of_id id ≡ Some it
+    → room_with id ≤ room → room < length (first_snapshot (instance_by variant (meaning_of it) key barrier)) → ⊥
+first_enough id variant it key barrier room found h short =
+    omega (
+      arith,
+      first_most variant (meaning_of it) key barrier (any_is_lawful it),
+      subst (λ (n : ℕ). n ≤ room) (room_is id it found) h,
+      short,
+    )
+
+-- a record
+pub length-record : (p : PendingRecord) → length (pending_spelling p) ≡ 48 + length p.request
+unfolding pending_spelling
+length-record p = rw (length-append, length-sha256) (omega (arith, length-pending_front p))
+
+no_record : (position : ℕ) (request : List ℕ) (says : ReturnStatus) → HasNoRecord position request says → says ≡ said.NoRoom → ⊥
+no_record position request says (inl a) e = let f : says ≡ said.NoPosition = a.0 in absurd (cc)
+no_record position request says (inr (inl a)) e = let f : says ≡ said.Refused refusal.Long = a.0 in absurd (cc)
+no_record position request says (inr (inr f)) e = absurd (cc)
+
+-- bytes are written for which there is room
+pub front_enough : (bytes : List ℕ) (it : RoomState) (says : ReturnStatus) → PutsInFront bytes it says → length bytes ≤ length it.before
+    → says ≡ said.NoRoom → ⊥
+front_enough bytes it says (inl a) h e = let f : says ≡ said.Done = a.0 in absurd (cc)
+front_enough bytes it says (inr a) h e = omega (arith, h, a.2)
+
+pub record_enough : (position : ℕ) (request : List ℕ) (it : RoomState) (number : ℕ) → RecordsRequest position request it number
+    → 48 + length request ≤ length it.before → number ≡ 36 → ⊥
+record_enough position request it number r h e =
+    elim r.puts [
+      | inl p ↦ front_enough _ it r.says p
+          (rw (length-record (record { position = position; request = request })) h) (only_room r.says (sym r.number_is ∙ e))
+      | inr n ↦ no_record position request r.says n.0 (only_room r.says (sym r.number_is ∙ e))
+    ]
+
+pub reads_enough : (slot : ℕ) (bytes : List ℕ) (it : RoomState) (position : ℕ) (says : ReturnStatus)
+    → ReadsRecordOrNone slot bytes it position says → longest_request ≤ length it.before → says ≡ said.NoRoom → ⊥
+reads_enough slot bytes it position says (inl r) h e =
+    front_enough r.read.request it says r.puts (omega (arith, r.reads.0.line.short, h)) e
+reads_enough slot bytes it position says (inr n) h e =
+    let f : says ≡ said.Refused refusal.Form = n.told in absurd (cc)
+
+first_puts : (instance : Instance) (keys : Keys) (it : ProvisionMemory) (says : ReturnStatus) → PutsInstance instance keys it says
+    → room_with instance.«module» ≤ length it.before → says ≡ said.NoRoom → ⊥
+first_puts instance keys it says p h e =
+    elim p.puts [
+      | inl a ↦ let f : says ≡ said.Done = a.0 in absurd (cc)
+      | inr a ↦ first_enough instance.«module» p.is_meant.parts.0 p.is_meant.parts.1 keys.key keys.barrier (length it.before)
+          p.is_meant.are_parts.1 h
+          (subst (λ (i : model.Instance). length it.before < length (first_snapshot i)) p.is_meant.is a.2)
+    ]
+
+first_unmade : (instance : Instance) (says : ReturnStatus) → IsUnmade instance says → says ≡ said.NoRoom → ⊥
+first_unmade instance says (inl no_one) e = subst IsOfPassed e (no_instance instance says no_one)
+first_unmade instance says (inr f) e = absurd (cc)
+
+pub provision_enough : (instance : Instance) (keys : Keys) (it : ProvisionMemory) (number : ℕ)
+    → ProvisionsInstance instance keys it number → room_with instance.«module» ≤ length it.before → number ≡ 36 → ⊥
+provision_enough instance keys it number r h e =
+    elim r.puts [
+      | inl p ↦ first_puts instance keys it r.says p h (only_room r.says (sym r.number_is ∙ e))
+      | inr n ↦ first_unmade instance r.says n.0 (only_room r.says (sym r.number_is ∙ e))
+    ]

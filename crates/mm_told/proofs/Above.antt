@@ -1,0 +1,2 @@
+-- What crates above may cite of these proofs: the other files can be read and changed by this crate alone.
+pub use Rattle.mm_told.proofs.Sizing.{sealed_most}
