@@ -1,18 +1,25 @@
 -- The sessions that a client had held by a program are a life of a client over one store.
 use Rattle.std.specs.List.{AllByRecursion}
-use Rattle.std.proofs.Common.{◌≡◌, ◌∙◌, ◌+◌, ◌≤◌, ℕ, List, [], ◌∷◌, ◌++◌, length, drop, take, Some, refl, sym, ap, inl, inr, subst, arith}
-use Rattle.std.proofs.Common.{Option, Result}
+use Rattle.std.specs.Option.{option_map}
+use Rattle.std.proofs.Common.{◌≡◌, ◌≢◌, ◌∙◌, ◌+◌, ◌≤◌, ℕ, Bool, true, false, List, [], ◌∷◌, ◌++◌, length, drop, take, Some, refl, sym, ap, inl, inr, subst, arith}
+use Rattle.std.proofs.Common.{Option, None, Result, Ok}
 use Rattle.std.proofs.lemmas.List.{take-append-drop}
+use Rattle.mm_bytes.specs.Faults.{CountRose}
 use Rattle.mm_bytes.specs.Limits.{last_position}
 use Rattle.mm_base.specs.Input.{joined_lines}
+use Rattle.mm_host.specs.SessionBlame.{is_store_fault}
 use Rattle.mm_host.specs.SessionStanding.{session_standing}
 use Rattle.mm_host.specs.Sessions.{IsSession}
 use Rattle.mm_host.specs.declared.fault.SessionFault.{SessionFault}
 use Rattle.mm_module.specs.Meaning.{IsLawful}
+use Rattle.mm_platform.specs.Standing.{Item, item_values}
+use Rattle.mm_play.specs.PlaysInput.{IsBlamed}
 use Rattle.mm_recovery.specs.FirstStart.{InstanceBegins}
-use Rattle.mm_recovery.specs.Init.{Devices, host_among}
+use Rattle.mm_recovery.specs.Init.{Devices, InitGoes, host_among}
 use Rattle.mm_life.specs.HonestLife.{GoesOnFrom}
+use Rattle.mm_life.specs.OneStore.{KeepsStore}
 use Rattle.mm_life.specs.Stages.{program_standing, session_stage}
+use Rattle.mm_life.proofs.Above.{Told, started_told}
 use Rattle.mm_client.proofs.Below.{AreNoChance, Basic, Batch, Does, Holds, HostStanding, Instance, IsGoneOnWith, IsLife, IsOverOneStore, LifePart}
 use Rattle.mm_client.proofs.Below.{LifeStage, Meaning, Opt, PartGoesOn, PartLeads, Standing, StoreStanding, Variant, each_left, each_right, end_of}
 use Rattle.mm_client.proofs.Below.{store_at_end}
@@ -20,7 +27,7 @@ use Rattle.mm_client.specs.AnyLife.{life_told, part_told}
 use Rattle.mm_client.specs.ClientLife.{AreNoOthers, IsClientLife}
 use Rattle.mm_client.specs.Hearing.{ClientMemory, Hearing, lines_to_give, memory_after, memory_at}
 use Rattle.mm_client.specs.Laws.{BasicClientsAreServedOnce, OptClientsAreServedOnce}
-use Rattle.mm_client.specs.LocalLife.{HearsOutput, HoldsSession, KeepStore, LocalStanding, ServesLocalClient}
+use Rattle.mm_client.specs.LocalLife.{HearsOutput, HoldsSession, LocalStanding, ServesLocalClient}
 use Rattle.mm_client.specs.Rounds.{AreRounds}
 use Rattle.mm_client.proofs.AnyLives.{replies_tell}
 use Rattle.mm_client.proofs.HeardTold.{IsReadable}
@@ -40,6 +47,33 @@ rounds_on view holds holds_so so base wanted (heard ∷ hearings) old new before
   rounds_on view holds holds_so so base wanted hearings r.0 new (memory_after before heard) after r.2,
 )
 
+-- the store failed in none of the sessions
+abbrev KeepsStoreIn : LifePart → Type 0
+KeepsStoreIn (Holds p) = KeepsStore p.result
+KeepsStoreIn (Does deed) = Unit {0}
+
+abbrev pub KeepStore : List LifeStage → Type 0
+KeepStore stages = AllByRecursion (λ stage. KeepsStoreIn stage.part) stages
+
+-- a count that rose isn't zero
+risen : (before now : ℕ) → CountRose before now → now ≢ 0
+risen before now rose none = omega (arith, rose, none)
+
+-- one that is zero was zero before, and nobody is blamed
+none_by : (is_blamed : Bool) (before now : ℕ) → IsBlamed is_blamed before now → now ≡ 0 → (before ≡ 0) × (is_blamed ≡ false)
+none_by true before now rose none = absurd (risen before now rose none)
+none_by false before now same none = (sym same ∙ none, refl)
+
+none_failed : (result : Result Unit SessionFault) → is_store_fault result ≡ false → KeepsStore result
+none_failed result none failed =
+    let clash : true ≡ false = sym (ap (λ (x : Result Unit SessionFault). is_store_fault x) failed) ∙ none in absurd (cc)
+
+-- a register that shows its values is told
+told_of : (items : Option (List Item)) (values : List (List ℕ)) → option_map item_values items ≡ Some values
+    → (all : List Item) × (items ≡ Some all)
+told_of None values shown = absurd (cc)
+told_of (Some items) values shown = (items, refl)
+
 -- the stages of such sessions
 pub record LocalStages (variant : Variant) (meaning : Meaning) (wanted : List (List ℕ)) (old new : HostStanding)
     (before after : ClientMemory) (rounds : ℕ) : Type 0 where
@@ -49,6 +83,7 @@ pub record LocalStages (variant : Variant) (meaning : Meaning) (wanted : List (L
   pub over : IsOverOneStore old.kept stages
   pub ends : end_of old.standing stages ≡ new.standing
   pub left : store_at_end old.kept stages ≡ new.kept
+  pub kept : new.kept.faults ≡ 0 → (old.kept.faults ≡ 0) × KeepStore stages
   pub chance : KeepStore stages → AreNoChance variant meaning old.standing stages life
   pub others : KeepStore stages → AreNoOthers variant meaning old.standing stages life
   pub client : AllByRecursion IsReadable (life_told variant meaning old.standing stages life)
@@ -71,6 +106,10 @@ one_more wanted old middle new before after heard rounds h t most size = record 
   over = ((refl, refl), t.over);
   ends = t.ends;
   left = t.left;
+  kept = λ none.
+      let rest = t.kept none in
+      let n = none_by (is_store_fault h.result) old.host.kept.faults middle.host.kept.faults h.blames rest.0 in
+      (n.0, (none_failed h.result n.1, rest.1));
   chance = λ kept. ((λ is waiting waits slots told. absurd (kept.0 is)), t.chance kept.1);
   others = λ kept. ((λ is waiting waits next there at. absurd (kept.0 is)), t.others kept.1);
   client = λ all. (
@@ -99,6 +138,7 @@ local_stages wanted [] old new before after r = record {
   over = tt;
   ends = sym (ap (λ (x : LocalStanding). x.host.standing) r.0);
   left = sym (ap (λ (x : LocalStanding). x.host.kept) r.0);
+  kept = λ none. (sym (ap (λ (x : LocalStanding). x.host.kept.faults) r.0) ∙ none, tt);
   chance = λ kept. tt;
   others = λ kept. tt;
   client = λ all. r.1;
@@ -139,10 +179,11 @@ told_readable {all = all} {others = others} {asked = asked} {i = i} {start = sta
     (life_told i.variant i.meaning start stages f) (replies_tell i.variant i.meaning start stages f [] gone.after gone.follows)
 
 pub serves_local : BasicClientsAreServedOnce → OptClientsAreServedOnce → (variant : Variant) (meaning : Meaning) → IsLawful meaning
-    → (old started : Devices) → InstanceBegins variant meaning old started → (new : HostStanding) (wanted : List (List ℕ)) (rounds : ℕ)
+    → (old started : Devices) → InitGoes variant meaning old started (Ok tt) → InstanceBegins variant meaning old started
+    → (new : HostStanding) (wanted : List (List ℕ)) (rounds : ℕ)
     (client : ClientMemory) → LocalStages variant meaning wanted (host_among started) new (memory_at 0) client rounds
     → ServesLocalClient variant meaning old new wanted rounds client
-serves_local basic opt Basic meaning lawful old started begun new wanted rounds client t = record {
+serves_local basic opt Basic meaning lawful old started inits begun new wanted rounds client t = record {
   started = started;
   begun = begun;
   stages = t.stages;
@@ -151,7 +192,8 @@ serves_local basic opt Basic meaning lawful old started begun new wanted rounds 
   over = t.over;
   ends = t.ends;
   left = t.left;
-  serves = λ cell values slots here shown honest told kept unbroken.
+  serves = λ cell values slots here shown honest told none unbroken.
+      let kept = (t.kept none).1 in
       elim (basic meaning lawful (take 32 begun.secrets) started.platform started.store t.stages t.life wanted
       (begun.stands cell [] here refl) (begun.honest ∙ honest) (begun.stores slots honest told) t.over (t.chance kept) (t.others kept)
       unbroken) [
@@ -159,7 +201,7 @@ serves_local basic opt Basic meaning lawful old started begun new wanted rounds 
         | inr clash ↦ inr clash
       ];
 }
-serves_local basic opt Opt meaning lawful old started begun new wanted rounds client t = record {
+serves_local basic opt Opt meaning lawful old started inits begun new wanted rounds client t = record {
   started = started;
   begun = begun;
   stages = t.stages;
@@ -168,9 +210,13 @@ serves_local basic opt Opt meaning lawful old started begun new wanted rounds cl
   over = t.over;
   ends = t.ends;
   left = t.left;
-  serves = λ cell values slots here shown honest told kept unbroken.
-      elim (opt meaning lawful (take 32 begun.secrets) (drop 32 begun.secrets) values started.platform started.store t.stages t.life
-      wanted (begun.stands cell values here shown) (begun.honest ∙ honest) (begun.stores slots honest told) t.over (t.chance kept)
+  serves = λ cell values slots here shown honest told none unbroken.
+      let kept = (t.kept none).1 in
+      let before = told_of old.platform.items values shown in
+      let n : Told started.platform = started_told Opt meaning old started inits (record { items = before.0; tells = before.1 }) in
+      let stands = begun.stands cell (item_values n.items) here (ap (λ xs. option_map item_values xs) n.tells) in
+      elim (opt meaning lawful (take 32 begun.secrets) (drop 32 begun.secrets) (item_values n.items) started.platform started.store
+      t.stages t.life wanted stands (begun.honest ∙ honest) (begun.stores slots honest told) t.over (t.chance kept)
       (t.others kept) unbroken) [
         | inl served ↦ inl (t.client (told_readable lawful served.gone), served)
         | inr clash ↦ inr clash
@@ -179,13 +225,14 @@ serves_local basic opt Opt meaning lawful old started begun new wanted rounds cl
 
 -- as its sessions were held
 pub serves_rounds : BasicClientsAreServedOnce → OptClientsAreServedOnce → (variant : Variant) (meaning : Meaning) → IsLawful meaning
-    → (old started : Devices) → InstanceBegins variant meaning old started → (new : LocalStanding) (wanted : List (List ℕ))
+    → (old started : Devices) → InitGoes variant meaning old started (Ok tt) → InstanceBegins variant meaning old started
+    → (new : LocalStanding) (wanted : List (List ℕ))
     (hearings : List Hearing) (rounds : ℕ) (client : ClientMemory) → length hearings ≡ rounds
     → AreRounds HoldsSession 0 wanted (record { variant = variant; meaning = meaning; host = host_among started }) hearings (memory_at 0)
     new client
     → ServesLocalClient variant meaning old new.host wanted rounds client
-serves_rounds basic opt variant meaning lawful old started begun new wanted hearings rounds client count r =
-    serves_local basic opt variant meaning lawful old started begun new.host wanted rounds client
+serves_rounds basic opt variant meaning lawful old started inits begun new wanted hearings rounds client count r =
+    serves_local basic opt variant meaning lawful old started inits begun new.host wanted rounds client
     (subst (λ (n : ℕ). LocalStages variant meaning wanted (host_among started) new.host (memory_at 0) client n) count
     (local_stages wanted hearings (record { variant = variant; meaning = meaning; host = host_among started }) new (memory_at 0) client r))
 
@@ -194,11 +241,12 @@ pub holds_so : (variant : Variant) (meaning : Meaning) (old new : HostStanding) 
     (text given : List ℕ) (count : ℕ) (left left' received : Option (List ℕ)) (output told : List ℕ) (result : Result Unit SessionFault)
     → text ≡ joined_lines lines → given ≡ take count text → left ≡ Some given → received ≡ Some [] → told ≡ output
     → IsSession variant meaning (session_standing old.standing old.kept left received)
-    (session_standing new.standing new.kept left' (Some output)) result → HearsOutput told result heard
+    (session_standing new.standing new.kept left' (Some output)) result
+    → IsBlamed (is_store_fault result) old.kept.faults new.kept.faults → HearsOutput told result heard
     → HoldsSession (record { variant = variant; meaning = meaning; host = old })
     (record { variant = variant; meaning = meaning; host = new }) lines heard
 holds_so variant meaning old new lines heard text given count left left' received output told result is front left_is received_is same
-    s h = record {
+    s blames h = record {
       variant = refl;
       meaning = refl;
       given = given;
@@ -215,5 +263,6 @@ holds_so variant meaning old new lines heard text given count left left' receive
           (session_standing new.standing new.kept left' (Some output)) result) received_is
           (subst (λ (l : Option (List ℕ)). IsSession variant meaning (session_standing old.standing old.kept l received)
           (session_standing new.standing new.kept left' (Some output)) result) left_is s);
+      blames = blames;
       hears = subst (λ (bytes : List ℕ). HearsOutput bytes result heard) same h;
     }

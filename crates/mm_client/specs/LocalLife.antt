@@ -3,16 +3,17 @@
 use Rattle.std.specs.Prelude.{◌≡◌, ◌⊎◌, ℕ, true, List, [], ◌++◌, drop, take, length, Option, Some, Result, Ok, Err}
 use Rattle.std.specs.List.{AllByRecursion}
 use Rattle.mm_base.specs.declared.replay_fault.ReplayFault.TheVariants.{WriteFault}
+use Rattle.mm_host.specs.SessionBlame.{is_store_fault}
 use Rattle.mm_host.specs.SessionStanding.{session_standing}
 use Rattle.mm_host.specs.declared.fault.SessionFault.TheVariants.{Lines}
+use Rattle.mm_play.specs.PlaysInput.{IsBlamed}
 use Rattle.mm_recovery.specs.FirstStart.{InstanceBegins, ShowsValues}
 use Rattle.mm_recovery.specs.HostStanding.{host_standing}
 use Rattle.mm_recovery.specs.Init.{Devices}
 use Rattle.mm_store.specs.Slots.{Slots}
 use Rattle.mm_life.specs.HonestLife.{store_at_end}
-use Rattle.mm_life.specs.OneStore.{KeepsStore}
 use Rattle.mm_client.specs.Below.{Variant, Basic, Opt, Standing, Meaning, StoreStanding, IsUnbroken, basic_instance, opt_instance}
-use Rattle.mm_client.specs.Below.{HostStanding, SessionFault, IsSession, Does, Holds, IsLife, LifePart, LifeStage}
+use Rattle.mm_client.specs.Below.{HostStanding, SessionFault, IsSession, IsLife, LifeStage}
 use Rattle.mm_client.specs.Below.{IsOverOneStore, HasClash, end_of, life_batches, life_messages, opt_messages, others_values}
 use Rattle.mm_client.specs.Hearing.{ClientMemory, Hearing, memory_at}
 use Rattle.mm_client.specs.ClientLife.{IsClientLife, IsGiven}
@@ -41,7 +42,8 @@ local_standing variant meaning standing kept =
     record { variant = variant; meaning = meaning; host = host_standing standing kept }
 
 -- The program holds one session, over an input and an output of its own: the first bytes of these
--- lines come in, and this is heard of it.
+-- lines come in, and this is heard of it. The store's count of faults rises exactly where the
+-- session ended with its fault.
 pub record HoldsSession (old new : LocalStanding) (lines : List (List ℕ)) (heard : Hearing) : Type 0
   where
     pub variant : new.variant ≡ old.variant
@@ -54,15 +56,8 @@ pub record HoldsSession (old new : LocalStanding) (lines : List (List ℕ)) (hea
     pub session : IsSession old.variant old.meaning
         (session_standing old.host.standing old.host.kept (Some given) (Some []))
         (session_standing new.host.standing new.host.kept left (Some output)) result
+    pub blames : IsBlamed (is_store_fault result) old.host.kept.faults new.host.kept.faults
     pub hears : HearsOutput output result heard
-
--- the store failed in none of the sessions
-abbrev pub KeepsStoreIn : LifePart → Type 0
-KeepsStoreIn (Holds p) = KeepsStore p.result
-KeepsStoreIn (Does deed) = Unit {0}
-
-abbrev pub KeepStore : List LifeStage → Type 0
-KeepStore stages = AllByRecursion (λ stage. KeepsStoreIn stage.part) stages
 
 -- The client of such a life, who remembers this at its end, is served once. Or it gives evidence:
 -- two different messages of its calls, in Opt also by which the register's items went into it, have
@@ -86,8 +81,8 @@ IsServedIn Opt meaning secrets kept start stages f wanted client =
 
 -- An instance was begun, and then a client who wants these lines had so many sessions of it held,
 -- by the rule. They are a life over one store. He is served once, where the platform told its cell
--- before, and in Opt the register behind the first start, and an honest store its slots; and the
--- store failed in none of the sessions.
+-- before the first start, in Opt the register too, and an honest store its slots; and the store
+-- tells no fault at the end.
 pub record ServesLocalClient (variant : Variant) (meaning : Meaning) (old : Devices)
     (new : HostStanding) (wanted : List (List ℕ)) (rounds : ℕ) (client : ClientMemory)
     : Type 0 where
@@ -100,8 +95,8 @@ pub record ServesLocalClient (variant : Variant) (meaning : Meaning) (old : Devi
   pub ends : end_of started.platform stages ≡ new.standing
   pub left : store_at_end started.store stages ≡ new.kept
   pub serves : (cell : List ℕ) (values : List (List ℕ)) (slots : Slots) →
-      old.platform.cell ≡ Some cell → ShowsValues variant started.platform values →
-      old.store.is_honest ≡ true → old.store.slots ≡ Some slots → KeepStore stages →
+      old.platform.cell ≡ Some cell → ShowsValues variant old.platform values →
+      old.store.is_honest ≡ true → old.store.slots ≡ Some slots → new.kept.faults ≡ 0 →
       AllByRecursion IsUnbroken wanted →
       IsServedIn variant meaning begun.secrets started.store started.platform stages life wanted
       client

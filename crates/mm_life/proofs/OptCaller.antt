@@ -34,9 +34,9 @@ use Rattle.mm_life.proofs.Standings.{part_stands}
 use Rattle.mm_life.proofs.Unlost.{shut_behind, still_open, unlost}
 
 -- A register that was told is told behind a first start.
-record Told (standing : Standing) : Type 0 where
-  items : List Item
-  tells : standing.items ≡ Some items
+pub record Told (standing : Standing) : Type 0 where
+  pub items : List Item
+  pub tells : standing.items ≡ Some items
 
 told_on : (old new : Standing) (others : List (List ℕ)) → new.items ≡ items_beside others old.items → Told old → Told new
 told_on old new others e t = record {
@@ -67,7 +67,7 @@ looked_told variant meaning middle after (Ok false) g t = let e = g.1 in absurd 
 looked_told variant meaning middle after (Ok true) g t =
     taken_told variant meaning (record middle { left = g.left; source_faults = g.source_faults }) after g.taken g.goes t
 
-started_told : (variant : Variant) (meaning : Meaning) (before after : Devices) → InitGoes variant meaning before after (Ok tt)
+pub started_told : (variant : Variant) (meaning : Meaning) (before after : Devices) → InitGoes variant meaning before after (Ok tt)
     → Told before.platform → Told after.platform
 started_told variant meaning before after n t =
     looked_told variant meaning (record before { platform = n.platform }) after n.is_blank n.goes

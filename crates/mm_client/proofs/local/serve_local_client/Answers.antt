@@ -14,7 +14,7 @@ returns-in-Ok-live_as_client g c =
     (g.E.Source.left c.args.entropy.now) (g.E.Source.faults c.args.entropy.now))
     (devices (g.P.Device.standing c.init-started.new.platform) (g.T.Store.kept c.init-started.new.store)
     (g.E.Source.left c.init-started.new.entropy) (g.E.Source.faults c.init-started.new.entropy))
-    c.in-Ok.ensures.leaves
+    c.in-Ok.ensures.steps c.in-Ok.ensures.leaves
     (local_standing c.live_as_client.new.service.variant (g.M.Module.meaning c.live_as_client.new.service.module)
     (g.P.Device.standing c.live_as_client.new.service.platform) (g.T.Store.kept c.live_as_client.new.service.store))
     c.args.wanted.now l.hearings c.args.rounds c.in-Ok-live_as_client.client l.count

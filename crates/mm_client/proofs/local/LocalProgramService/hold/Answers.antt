@@ -13,4 +13,4 @@ returns g c =
     c.content.result.now c.session-ended.result c.in_ok-text.ensures
     (c.first_bytes-given.ensures ∙ ap (λ bytes. take c.carry-carried.result.given bytes) c.as_slice.ensures.value)
     (ap (λ x. Some x.left) c.in_ok-input.ensures) (ap (λ x. Some x.received) c.in_ok-out.ensures) c.content.ensures
-    c.session-ended.ensures.sessions c.hearing_of.ensures
+    c.session-ended.ensures.sessions c.session-ended.ensures.store c.hearing_of.ensures
