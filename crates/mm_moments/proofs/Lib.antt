@@ -8,3 +8,4 @@ mod SessionStops
 mod MortalEnds
 mod MortalTurns
 mod MortalLaws
+pub mod Above

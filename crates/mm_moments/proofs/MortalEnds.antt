@@ -42,19 +42,19 @@ use Rattle.mm_call.specs.ShownItems.{foreign_items}
 -- what a session found is what its slots show
 module _ {variant : Variant} {meaning : Meaning} {old new : SessionStanding} {result : Result Unit SessionFault}
     (s : IsSession variant meaning old new result) (waiting : Option PendingRecord) (w : WaitsInSlots old.kept.slots waiting) where
-  saw : Saw w.shown old.kept s.resumes.middle s.resumes.waiting
+  pub saw : Saw w.shown old.kept s.resumes.middle s.resumes.waiting
   saw =
       let r = s.resumes in
       saw_two w.shown r.finds.two old.kept r.finds.middle r.middle r.waiting w.told r.finds.reads r.finds.goes
 
-  found_same : (found : Result (Option PendingRecord) StoreFault) (middle at : HostStanding) (begun : Result Resumed HostFault)
+  pub found_same : (found : Result (Option PendingRecord) StoreFault) (middle at : HostStanding) (begun : Result Resumed HostFault)
       → HostGoesAfterFinding variant meaning found middle at begun → Saw w.shown old.kept s.resumes.middle found → (first : Resumed)
       → begun ≡ Ok first → waiting ≡ found_record found
   found_same (Ok found) middle at begun g saw first is =
       one_waiting (slot_front w.shown 2) (slot_front w.shown 3) waiting found w.is_waiting (saw.waiting found refl)
   found_same (Err why) middle at begun g saw first is = absurd (cc)
 
-  served_same : (goes : SessionGoesAfterResume variant meaning s.begun s.middle (host_of new) new.left s.taken s.sent result)
+  pub served_same : (goes : SessionGoesAfterResume variant meaning s.begun s.middle (host_of new) new.left s.taken s.sent result)
       → served_calls_in waiting goes ≡ served_calls_in (found_record s.resumes.waiting) goes
   served_same (inl stops) = refl
   served_same (inr goes) =
@@ -62,14 +62,14 @@ module _ {variant : Variant} {meaning : Meaning} {old new : SessionStanding} {re
       (found_same s.resumes.waiting (record (host_of old) { kept = s.resumes.middle }) s.middle s.begun s.resumes.goes saw goes.first
       goes.begins)
 
-abbrev failed_by : SessionFault → Result Unit SessionFault
+abbrev pub failed_by : SessionFault → Result Unit SessionFault
 failed_by fault = Err fault
 
-fault_same : (fault other : SessionFault) → failed_by fault ≡ failed_by other → fault ≡ other
+pub fault_same : (fault other : SessionFault) → failed_by fault ≡ failed_by other → fault ≡ other
 fault_same fault other e = cc
 
 module _ (stops_anywhere : SessionStopsAnywhere) (variant : Variant) (meaning : Meaning) (lawful : IsLawful meaning) where
-  part_ends : (old : Standing) (part : MortalPart) (new : Standing) (f : MortalPartLeads variant meaning old part new)
+  unfoldable pub part_ends : (old : Standing) (part : MortalPart) (new : Standing) (f : MortalPartLeads variant meaning old part new)
       → PartEnds variant meaning old part new f
   part_ends old (Lives part) new f = record { ended = part; leads = f; is = refl; calls = refl; replies = refl; chance = λ h. h }
   part_ends old (Dies p) new k =
@@ -85,7 +85,7 @@ module _ (stops_anywhere : SessionStopsAnywhere) (variant : Variant) (meaning : 
             (asked (s.stored (fault_same s.fault (Host Store) failed)) waiting w slots told);
       }
 
-  pub life_ends : (start : Standing) (stages : List MortalStage) (f : IsMortalLife variant meaning start stages)
+  unfoldable pub life_ends : (start : Standing) (stages : List MortalStage) (f : IsMortalLife variant meaning start stages)
       → LifeEnds variant meaning start stages f
   life_ends start [] f = tt
   life_ends start (stage ∷ stages) f = (part_ends start stage.part stage.after f.0, life_ends stage.after stages f.1)

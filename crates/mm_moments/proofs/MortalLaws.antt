@@ -38,14 +38,14 @@ moved P a a' b b' c c' p q r h =
 -- requests are the same.
 module _ (i : Instance) (start : Standing) (stages : List MortalStage) (f : IsMortalLife i.variant i.meaning start stages)
     (e : LifeEnds i.variant i.meaning start stages f) where
-  abbrev ended : List LifeStage
+  abbrev pub ended : List LifeStage
   ended = ended_stages i.variant i.meaning start stages f e
 
-  abbrev life : IsLife i.variant i.meaning start ended
+  abbrev pub life : IsLife i.variant i.meaning start ended
   life = ended_life i.variant i.meaning start stages f e
 
   -- what is said of the one, by calls, messages and values
-  to_mortal : (P : List LifeCall → List (List ℕ) → List (List ℕ) → Type 0)
+  pub to_mortal : (P : List LifeCall → List (List ℕ) → List (List ℕ) → Type 0)
       → P (life_calls i.variant i.meaning start ended life) (register_messages i start ended life) (others_values i start ended life)
       → P (mortal_calls i.variant i.meaning start stages f) (mortal_register_messages i start stages f) (mortal_others i start stages f)
   to_mortal P h =

@@ -1,27 +1,20 @@
 -- A life in which a client's sessions are killed is one of his in which they ended.
-use Rattle.std.proofs.Common.{◌≡◌, ◌∙◌, ◌+◌, ◌++◌, ℕ, true, List, [], ◌∷◌, length, Option, Some, Result, Ok, Err, refl, sym, ap, inl, inr, subst}
+use Rattle.std.proofs.Common.{◌≡◌, ◌∙◌, ◌+◌, ℕ, true, List, [], ◌∷◌, length, Option, Some, Result, Err, refl, sym, ap, inl, inr, subst}
 use Rattle.mm_digest.specs.declared.variant.Variant.{Variant}
 use Rattle.mm_platform.specs.Standing.{Standing}
 use Rattle.mm_module.specs.Batch.{Batch}
 use Rattle.mm_module.specs.Meaning.{IsLawful, Meaning}
 use Rattle.mm_model.specs.Instance.{Instance}
 use Rattle.mm_store.specs.PendingRecord.{PendingRecord}
-use Rattle.mm_store.specs.Slots.{slot_front}
 use Rattle.mm_store.specs.StoreStanding.{StoreStanding}
-use Rattle.mm_store.specs.declared.fault.StoreFault.{StoreFault}
 use Rattle.mm_recovery.specs.HostStanding.{HostStanding, host_standing}
-use Rattle.mm_recovery.specs.Resumption.{HostGoesAfterFinding}
-use Rattle.mm_recovery.specs.declared.fault.HostFault.{HostFault}
 use Rattle.mm_recovery.specs.declared.fault.HostFault.TheVariants.{Store}
-use Rattle.mm_recovery.specs.declared.resuming.Resumed.{Resumed}
-use Rattle.mm_recovery.proofs.Above.{Saw, one_waiting, saw_two}
-use Rattle.mm_host.specs.Continuation.{IsInHand, IsNotBeyond, first_served_call, served_calls_in}
+use Rattle.mm_host.specs.Continuation.{IsInHand, served_calls_in}
 use Rattle.mm_host.specs.SessionStanding.{SessionStanding, host_of}
 use Rattle.mm_host.specs.Sessions.{BytesBeginWith, IsSession, ServedCall, SessionGoesAfterResume, TurnGoes, turn_answer_of}
 use Rattle.mm_host.specs.declared.fault.SessionFault.{SessionFault}
 use Rattle.mm_host.specs.declared.fault.SessionFault.TheVariants.{Host}
 use Rattle.mm_life.specs.HonestLife.{WaitsInSlots, reached_position}
-use Rattle.mm_life.specs.OneList.{told_replies}
 use Rattle.mm_life.specs.SessionCalls.{found_record}
 use Rattle.mm_life.specs.Stages.{Does, Holds, session_on}
 use Rattle.mm_moments.specs.KilledSessions.{SessionStopsAnywhere}
@@ -33,85 +26,47 @@ use Rattle.mm_client.specs.Hearing.{ClientMemory}
 use Rattle.mm_client.specs.ServedOnce.{IsServedFrom}
 use Rattle.mm_mortal_clients.specs.MortalClient.{AreMortalNoOthers, IsMortalClientLife, IsMortalClientPart, MortalLeavesNoOther}
 use Rattle.mm_mortal_clients.specs.MortalServedOnce.{IsMortalServedFrom}
+use Rattle.mm_moments.proofs.Above.{fault_same, life_ends, part_ends, served_same}
 use Rattle.mm_mortal_clients.proofs.Honest.{resumed_waits, same_waits, session_honest}
 
-abbrev failed_by : SessionFault → Result Unit SessionFault
-failed_by fault = Err fault
-
-fault_same : (fault other : SessionFault) → failed_by fault ≡ failed_by other → fault ≡ other
-fault_same fault other e = cc
-
+-- Where the store failed, a line is in hand, or nothing was written to the slots of records.
 module _ {variant : Variant} {meaning : Meaning} {old new : SessionStanding} {result : Result Unit SessionFault}
-    (s : IsSession variant meaning old new result) (waiting : Option PendingRecord) (w : WaitsInSlots old.kept.slots waiting) where
+    (s : IsSession variant meaning old new result) (waiting : Option PendingRecord) (w : WaitsInSlots old.kept.slots waiting)
+    (honest : old.kept.is_honest ≡ true) (failed : result ≡ Err (Host Store)) (next : PendingRecord)
+    (later : WaitsInSlots new.kept.slots (Some next)) (hand : Option (List ℕ)) (is : hand ≡ Some next.request) where
   abbrev Goes : Type 0
   Goes = SessionGoesAfterResume variant meaning s.begun s.middle (host_of new) new.left s.taken s.sent result
 
-  -- what a session found is what its slots show
-  saw : Saw w.shown old.kept s.resumes.middle s.resumes.waiting
-  saw =
-      let r = s.resumes in
-      saw_two w.shown r.finds.two old.kept r.finds.middle r.middle r.waiting w.told r.finds.reads r.finds.goes
+  held_by : (line : List ℕ) → hand ≡ Some line → line ≡ next.request
+  held_by line e = let same : Some line ≡ Some next.request = sym e ∙ is in cc
 
-  found_same : (found : Result (Option PendingRecord) StoreFault) (middle at : HostStanding) (begun : Result Resumed HostFault)
-      → HostGoesAfterFinding variant meaning found middle at begun → Saw w.shown old.kept s.resumes.middle found → (first : Resumed)
-      → begun ≡ Ok first → waiting ≡ found_record found
-  found_same (Ok found) middle at begun g saw first is =
-      one_waiting (slot_front w.shown 2) (slot_front w.shown 3) waiting found w.is_waiting (saw.waiting found refl)
-  found_same (Err why) middle at begun g saw first is = absurd (cc)
-
-  served_same : (goes : Goes) → served_calls_in waiting goes ≡ served_calls_in (found_record s.resumes.waiting) goes
-  served_same (inl stops) = refl
-  served_same (inr goes) =
-      ap (λ (x : Option PendingRecord). first_served_call x goes.first ++ goes.lines.calls)
-      (found_same s.resumes.waiting (record (host_of old) { kept = s.resumes.middle }) s.middle s.begun s.resumes.goes saw goes.first
-      goes.begins)
-
-  -- Where the store failed, a line is in hand, or nothing was written to the slots of records.
-  module _ (honest : old.kept.is_honest ≡ true) (failed : result ≡ Err (Host Store)) (next : PendingRecord)
-      (later : WaitsInSlots new.kept.slots (Some next)) (hand : Option (List ℕ)) (is : hand ≡ Some next.request) where
-    held_by : (line : List ℕ) → hand ≡ Some line → line ≡ next.request
-    held_by line e = let same : Some line ≡ Some next.request = sym e ∙ is in cc
-
-    next_in_hand : (goes : Goes) → ((request : List ℕ) → IsInHand (found_record s.resumes.waiting) goes request → hand ≡ Some request)
-        → IsInHand waiting goes next.request
-    next_in_hand (inl e) told =
-        let same : waiting ≡ Some next = same_waits new.kept.slots waiting (Some next)
-        (subst (λ (x : HostStanding). WaitsInSlots x.kept.slots waiting) (sym e.0)
-        (resumed_waits waiting variant meaning (host_of old) s.middle s.begun honest s.resumes w)) later in
-        (next, same, refl)
-    next_in_hand (inr g) told =
-        let l = g.lines in
-        let e = subst (λ (r : Result Unit SessionFault).
-        TurnGoes variant meaning (length l.calls + 1) l.at (host_of new) new.left l.more [] l.last (turn_answer_of r)) failed l.ends in
-        (e.held, subst (λ (line : List ℕ). BytesBeginWith l.more line e.held) (held_by e.line (told e.line (e.held, e.begins))) e.begins)
+  next_in_hand : (goes : Goes) → ((request : List ℕ) → IsInHand (found_record s.resumes.waiting) goes request → hand ≡ Some request)
+      → IsInHand waiting goes next.request
+  next_in_hand (inl e) told =
+      let same : waiting ≡ Some next = same_waits new.kept.slots waiting (Some next)
+      (subst (λ (x : HostStanding). WaitsInSlots x.kept.slots waiting) (sym e.0)
+      (resumed_waits waiting variant meaning (host_of old) s.middle s.begun honest s.resumes w)) later in
+      (next, same, refl)
+  next_in_hand (inr g) told =
+      let l = g.lines in
+      let e = subst (λ (r : Result Unit SessionFault).
+      TurnGoes variant meaning (length l.calls + 1) l.at (host_of new) new.left l.more [] l.last (turn_answer_of r)) failed l.ends in
+      (e.held, subst (λ (line : List ℕ). BytesBeginWith l.more line e.held) (held_by e.line (told e.line (e.held, e.begins))) e.begins)
 
 module _ (stops_anywhere : SessionStopsAnywhere) (variant : Variant) (meaning : Meaning) (lawful : IsLawful meaning) where
-  part_ends : (old : Standing) (part : MortalPart) (new : Standing) (f : MortalPartLeads variant meaning old part new)
+  abbrev part_end : (old : Standing) (part : MortalPart) (new : Standing) (f : MortalPartLeads variant meaning old part new)
       → PartEnds variant meaning old part new f
-  part_ends old (Lives part) new f = record { ended = part; leads = f; is = refl; calls = refl; replies = refl; chance = λ h. h }
-  part_ends old (Dies p) new k =
-      let s = stops_anywhere variant meaning lawful (session_on old p.old) (host_standing new p.kept) p.received k in record {
-        ended = Holds (record { old = p.old; new = record { kept = p.kept; left = s.left; received = p.received }; result = Err s.fault });
-        leads = s.stops;
-        is = (s.left, s.fault, refl, s.stored);
-        calls = s.calls;
-        replies = ap told_replies s.told;
-        chance = λ asked failed waiting w slots told.
-            subst (λ (x : List ServedCall). IsNotBeyond slots (reached_position waiting x + 1))
-            (sym (served_same s.stops waiting w s.stops.goes ∙ s.told))
-            (asked (s.stored (fault_same s.fault (Host Store) failed)) waiting w slots told);
-      }
+  part_end old part new f = part_ends stops_anywhere variant meaning lawful old part new f
 
-  pub life_ends : (start : Standing) (stages : List MortalStage) (f : IsMortalLife variant meaning start stages)
+  abbrev end : (start : Standing) (stages : List MortalStage) (f : IsMortalLife variant meaning start stages)
       → LifeEnds variant meaning start stages f
-  life_ends start [] f = tt
-  life_ends start (stage ∷ stages) f = (part_ends start stage.part stage.after f.0, life_ends stage.after stages f.1)
+  end start stages f = life_ends stops_anywhere variant meaning lawful start stages f
 
   -- what he heard of a session that was killed he heard of one that ended
   module _ (base : ℕ) (wanted : List (List ℕ)) where
     client_part : (old : Standing) (part : MortalPart) (new : Standing) (f : MortalPartLeads variant meaning old part new)
         (before after : ClientMemory) → IsMortalClientPart base wanted variant meaning old part new f before after
-        → IsClientPart base wanted variant meaning old (part_ends old part new f).ended new (part_ends old part new f).leads before after
+        → IsClientPart base wanted variant meaning old (part_end old part new f).ended new (part_end old part new f).leads before after
     unfolding part_ends
     client_part old (Lives part) new f before after c = c
     client_part old (Dies p) new k before after c =
@@ -128,8 +83,8 @@ module _ (stops_anywhere : SessionStopsAnywhere) (variant : Variant) (meaning : 
 
     pub client_life : (start : Standing) (stages : List MortalStage) (f : IsMortalLife variant meaning start stages)
         (before after : ClientMemory) → IsMortalClientLife base wanted variant meaning start stages f before after
-        → IsClientLife base wanted variant meaning start (ended_stages variant meaning start stages f (life_ends start stages f))
-        (ended_life variant meaning start stages f (life_ends start stages f)) before after
+        → IsClientLife base wanted variant meaning start (ended_stages variant meaning start stages f (end start stages f))
+        (ended_life variant meaning start stages f (end start stages f)) before after
     unfolding life_ends
     client_life start [] f before after c = c
     client_life start (stage ∷ stages) f before after c = (
@@ -152,7 +107,7 @@ module _ (stops_anywhere : SessionStopsAnywhere) (variant : Variant) (meaning : 
   no_other : (kept : StoreStanding) (old : Standing) (part : MortalPart) (new : Standing)
       (f : MortalPartLeads variant meaning old part new) → kept.is_honest ≡ true → MortalBeginsOver kept part
       → MortalLeavesNoOther variant meaning old part new f
-      → LeavesNoOther variant meaning old (part_ends old part new f).ended new (part_ends old part new f).leads
+      → LeavesNoOther variant meaning old (part_end old part new f).ended new (part_end old part new f).leads
   unfolding part_ends
   no_other kept old (Lives part) new f honest over none = none
   no_other kept old (Dies p) new k honest over none =
@@ -167,8 +122,8 @@ module _ (stops_anywhere : SessionStopsAnywhere) (variant : Variant) (meaning : 
   pub no_others : (kept : StoreStanding) (start : Standing) (stages : List MortalStage)
       (f : IsMortalLife variant meaning start stages) → kept.is_honest ≡ true → IsMortalOverOneStore kept stages
       → AreMortalNoOthers variant meaning start stages f
-      → AreNoOthers variant meaning start (ended_stages variant meaning start stages f (life_ends start stages f))
-      (ended_life variant meaning start stages f (life_ends start stages f))
+      → AreNoOthers variant meaning start (ended_stages variant meaning start stages f (end start stages f))
+      (ended_life variant meaning start stages f (end start stages f))
   unfolding life_ends
   no_others kept start [] f honest over none = tt
   no_others kept start (stage ∷ stages) f honest over none = (

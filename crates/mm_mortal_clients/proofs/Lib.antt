@@ -1,4 +1,3 @@
 mod Honest
 mod Ending
-mod SameLife
 mod ServedLaws

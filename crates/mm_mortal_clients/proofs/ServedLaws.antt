@@ -15,8 +15,8 @@ use Rattle.mm_client.specs.Laws.{BasicClientsAreServedOnce, OptClientsAreServedO
 use Rattle.mm_client.specs.ServedOnce.{IsServedOnce}
 use Rattle.mm_mortal_clients.specs.Laws.{BasicMortalClientsAreServedOnce, OptMortalClientsAreServedOnce}
 use Rattle.mm_mortal_clients.specs.MortalServedOnce.{IsMortalServedOnce}
-use Rattle.mm_mortal_clients.proofs.Ending.{client_life, life_ends, mortal_served, no_others}
-use Rattle.mm_mortal_clients.proofs.SameLife.{ended, life, no_chance, over_one_store, to_mortal}
+use Rattle.mm_moments.proofs.Above.{ended, life, life_ends, no_chance, over_one_store, to_mortal}
+use Rattle.mm_mortal_clients.proofs.Ending.{client_life, mortal_served, no_others}
 
 module _ (stops : SessionStopsAnywhere) (i : Instance) (lawful : IsLawful i.meaning) (all others : List (List ℕ)) (kept : StoreStanding)
     (start : Standing) (stages : List MortalStage) (f : IsMortalLife i.variant i.meaning start stages) (wanted : List (List ℕ)) where
