@@ -1,10 +1,11 @@
 -- What crates above may cite of these proofs: the other files can be read and changed by this crate alone.
 pub use Rattle.mm_call.specs.OfferLaws.{basic_content}
 pub use Rattle.mm_recovery.proofs.Askable.{beyond_none, length-pending_spelling}
-pub use Rattle.mm_recovery.proofs.Refusing.{found_full, grows, judged_refused, one_more, waiting_most}
+pub use Rattle.mm_recovery.proofs.Refusing.{found_full, grows, judged_refused, keeps_refused, one_more, waiting_most}
 pub use Rattle.mm_recovery.proofs.CellWriting.{AnsweredWrites, both_writes, counted_most, joined, leads_rest, rests}
 pub use Rattle.mm_recovery.proofs.Exits.{answered_writes, by_refusal, CameWrites, new_most, next_came, next_told, resumes_came}
 pub use Rattle.mm_recovery.proofs.Exits.{resumes_told, Told}
+pub use Rattle.mm_recovery.proofs.Away.{is_checkpoint}
 pub use Rattle.mm_recovery.proofs.OneCall.{is_call}
 pub use Rattle.mm_recovery.proofs.Slots.{fits_on, holds_issued, issued_in_opt}
 pub use Rattle.mm_recovery.proofs.Meeting.{basic_met, IsGrownBy, IsSame, Met, not_lost, opt_grown, opt_met, opt_met_idle, was_powered}

@@ -8,5 +8,6 @@ mod Recovering
 mod SettingUp
 mod Exits
 mod CellWriting
+mod Away
 mod OneCall
 mod Sizes

@@ -7,6 +7,7 @@ use Rattle.std.specs.Prelude.{IfOk}
 use Rattle.mm_ask.specs.WholeAsk.{IsWholeAsk}
 use Rattle.mm_ask.proofs.Above.{asked_whole}
 use Rattle.mm_recovery.proofs.CellWriting.{basic_writes, opt_writes}
+use Rattle.mm_recovery.proofs.Away.{one_refused}
 
 pub asked_in : (variant : Variant) (meaning : Meaning) → IsLawful meaning → (old new : Standing) (offer : List ℕ) (b : Batch)
     (ended : AskResult) (result : Result BatchAnswer Refusal) → is_long b ≡ false → IsWholeAsk variant meaning old new offer b ended
@@ -44,4 +45,5 @@ is_call variant meaning old new offer request result gives e short asked =
       counts = counts variant meaning old new offer request result short a;
       limited = short;
       steps = a.calls.asks short;
+      elsewhere = one_refused variant meaning old new offer (One request) result (a.calls.asks short);
     }

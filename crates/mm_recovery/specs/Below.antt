@@ -6,7 +6,7 @@ pub use Rattle.mm_bytes.specs.declared.fault.Failed.{Failed}
 pub use Rattle.mm_digest.specs.Messages.{start_message}
 pub use Rattle.mm_digest.specs.declared.variant.Variant.{Variant}
 pub use Rattle.mm_digest.specs.declared.variant.Variant.TheVariants.{Basic, Opt}
-pub use Rattle.mm_seal.specs.Cell.{IsCell, blank_cell, cell_spelling}
+pub use Rattle.mm_seal.specs.Cell.{IsCell, SpellsCell, blank_cell, cell_spelling}
 pub use Rattle.mm_seal.specs.Snapshot.{Content}
 pub use Rattle.mm_seal.specs.declared.cell.Cell.{Cell}
 pub use Rattle.mm_platform.specs.Standing.{Item, Standing, item_values}
@@ -26,9 +26,11 @@ pub use Rattle.mm_model.specs.Places.{NamesPosition}
 pub use Rattle.mm_model.specs.Sound.{IsSound}
 pub use Rattle.mm_model.specs.Standing.{IsGenuine, IsRight, StandsFor, cell_of, issued_bytes}
 pub use Rattle.mm_model.specs.declared.answer.Answer.{Answer}
+pub use Rattle.mm_model.specs.declared.answer.BatchAnswer.{BatchAnswer}
 pub use Rattle.mm_model.specs.declared.refusal.Refusal.{Refusal}
 pub use Rattle.mm_model.specs.declared.refusal.Refusal.TheVariants.{Device, Long, Lost, Stale}
 pub use Rattle.mm_call.specs.Answers.{answer_on}
+pub use Rattle.mm_call.specs.AskPromise.{AskPromise}
 pub use Rattle.mm_call.specs.CallPremises.{IsWithin, right_messages}
 pub use Rattle.mm_call.specs.CallKind.{IsAskedCall}
 pub use Rattle.mm_call.specs.CallOnCourse.{IsCallOnCourse}
@@ -41,6 +43,10 @@ pub use Rattle.mm_call.specs.Premises.{AreShown, IsIdle}
 pub use Rattle.mm_call.specs.Refusals.{fault_in, fault_of}
 pub use Rattle.mm_call.specs.Standing.{count_after_more, instance_by}
 pub use Rattle.mm_call.specs.ShownItems.{standing_items}
+pub use Rattle.mm_opt.specs.CheckpointOnCourse.{IsCheckpointOnCourse}
+pub use Rattle.mm_opt.specs.CheckpointPromise.{CheckpointPromise}
+pub use Rattle.mm_opt.specs.declared.segment.CheckpointRefusal.{CheckpointRefusal}
+pub use Rattle.mm_opt.specs.declared.segment.Checkpointed.{Checkpointed}
 pub use Rattle.mm_ask.specs.WholeAsk.{ask_call}
 pub use Rattle.mm_store.specs.Calls.{ReadsSlot, WritesSlot}
 pub use Rattle.mm_store.specs.StoreStanding.{StoreStanding}

@@ -2,6 +2,7 @@ pub mod Below
 pub mod HostStanding
 pub mod Faults
 pub mod WaitingRequest
+pub mod Elsewhere
 pub mod HostCall
 pub mod LastAnswer
 pub mod Resumption

@@ -7,6 +7,7 @@
 #![tactic(auto)]
 
 mod asking;
+mod elsewhere;
 mod fault;
 mod init_fault;
 mod next;
@@ -15,6 +16,7 @@ mod setup;
 mod slot_laws;
 mod waiting;
 
+pub use elsewhere::nothing_is_done_elsewhere;
 pub use fault::HostFault;
 pub use init_fault::InitFault;
 pub use next::ask_next;
