@@ -35,6 +35,7 @@ use Rattle.mm_modules.specs.declared.any.AnyModule.{AnyModule}
 use Rattle.mm_modules.specs.ModulesLaws.{any_is_lawful}
 use Rattle.mm_moments.specs.KilledCalls.{CheckpointStopsAnywhere}
 use Rattle.mm_moments.specs.KilledSessions.{SessionStopsAnywhere}
+use Rattle.mm_recovery.proofs.Above.{is_checkpoint}
 use Rattle.mm_opt.specs.Checkpoints.{EndsLooking, FindsSegment, closing_fault_in, segment_in}
 use Rattle.mm_opt.specs.declared.segment.CheckpointRefusal.{CheckpointRefusal}
 use Rattle.mm_opt.specs.declared.segment.CheckpointRefusal.TheVariants.{Device}
@@ -271,7 +272,8 @@ module _ (reads : ReadsAreDeeds) (cycles : CyclesAreDeeds) (kills : Kills)
   ran_by r command (inr none) unused d s = same_ran r command (lacking_of r command none) none.still.standing
   ran_by r (Init header) (inl does) unused d s = init_ran r header does d s
   ran_by r Run (inl does) unused d s = run_ran r does d s
-  ran_by r Checkpoint (inl does) unused d s = quiet_ran r Checkpoint (λ stages q. q) (deeds.Checkpoints does.answer) tt does.goes
+  ran_by r Checkpoint (inl does) unused d s = quiet_ran r Checkpoint (λ stages q. q) (deeds.Checkpoints does.answer) tt
+      (is_checkpoint r.old.standing r.new.standing does.answer does.closes does.goes)
   ran_by r Power (inl does) unused d s = power_ran r does
   ran_by r command (inl does) unused d s = same_ran r command (λ stages q. q) (unused (λ used. used))
 
@@ -355,9 +357,11 @@ module _ (reads : ReadsAreDeeds) (cycles : CyclesAreDeeds) (kills : Kills)
       (reads variant M r.old.standing r.new.standing look.0 look.1)
   died_by r Run (inr serving) d s = serving_died r serving d s
   died_by r Checkpoint (inl k) d s =
+      let broken = kills.broken r.old.standing k.end r.new.standing k.said k.closes k.moment k.among k.leaves in
       quiet_died r Checkpoint (λ stages q. q) (deeds.Checkpoints (Err (Device Off))) tt
-      (kills.broken r.old.standing k.end r.new.standing k.said k.closes k.moment k.among k.leaves).goes
-  died_by r Checkpoint (inr k) d s = quiet_died r Checkpoint (λ stages q. q) (deeds.Checkpoints k.said) tt k.goes
+      (is_checkpoint r.old.standing r.new.standing (Err (Device Off)) broken.closes broken.goes)
+  died_by r Checkpoint (inr k) d s = quiet_died r Checkpoint (λ stages q. q) (deeds.Checkpoints k.said) tt
+      (is_checkpoint r.old.standing r.new.standing k.said k.closes k.goes)
   died_by r Power k d s = elim (cycles variant M r.old.standing r.new.standing k.0 k.1).failed [
     | inl lost ↦ quiet_died r Power (λ stages q. q) LosesPower tt lost
     | inr kept ↦ quiet_died r Power (λ stages q. q) (Extends []) tt kept

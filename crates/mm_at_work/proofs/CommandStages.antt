@@ -15,6 +15,7 @@ use Rattle.mm_status.specs.declared.status.Status.{Status}
 use Rattle.mm_recovery.specs.FirstStart.{InitLeaves}
 use Rattle.mm_recovery.specs.declared.init_fault.InitFault.{InitFault}
 use Rattle.mm_digest.specs.declared.variant.Variant.{Variant}
+use Rattle.mm_recovery.proofs.Above.{is_checkpoint}
 use Rattle.mm_life.specs.Deeds.{DeedLeads, Extends}
 use Rattle.mm_life.specs.DeviceDeeds.{CyclesAreDeeds, ReadsAreDeeds}
 use Rattle.mm_module.specs.Meaning.{Meaning}
@@ -72,7 +73,7 @@ runs_find it Opt key barrier y old new status r s none =
     none r.looks.finds
 
 pub checkpoints_are_parts : CheckpointsArePartsOfLife
-checkpoints_are_parts variant meaning old new status c = c.goes
+checkpoints_are_parts variant meaning old new status c = is_checkpoint old.standing new.standing c.answer c.closes c.goes
 
 pub losses_are_parts : CyclesAreDeeds → LossesArePartsOfLife
 losses_are_parts deeds variant meaning old new status l = deeds variant meaning old.standing new.standing l.fault l.cycles

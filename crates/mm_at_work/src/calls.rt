@@ -5,7 +5,7 @@ ghost use Rattle.mm_digest.specs.declared.variant.Variant.TheVariants.{Basic, Op
 ghost use Rattle.mm_module.specs.Batches.{batch_of};
 ghost use Rattle.mm_model.specs.Long.{is_long};
 ghost use Rattle.mm_call.specs.CallOnCourse.{IsCallOnCourse};
-ghost use Rattle.mm_opt.specs.CheckpointOnCourse.{IsCheckpointOnCourse};
+ghost use Rattle.mm_recovery.specs.Elsewhere.{IsCheckpoint};
 ghost use Rattle.mm_at_work.specs.Devices.{two_cells};
 
 use mm_model::{BatchAnswer, Refusal};
@@ -44,7 +44,7 @@ pub fn ask_opt<M: Module>(
 
 /// One checkpoint.
 pub fn close_segment(platform: &mut TwoCell<MemRaw>) -> Result<Checkpointed, CheckpointRefusal>
-    ensures { IsCheckpointOnCourse (two_cells platform.old) (two_cells platform.new) result }
+    ensures { IsCheckpoint (two_cells platform.old) (two_cells platform.new) result }
 {
     mm_opt::checkpoint(platform)
 }

@@ -80,7 +80,7 @@ module _ (meaning : Meaning) (key : List ℕ) (all others : List (List ℕ)) (as
   stays y old (Calls c) new quiet f stands within = absurd quiet
   stays y old (Extends values) new quiet f stands within = stays_same y old new f.0 stands within
   stays y old LosesPower new quiet f stands within = stays_same y old new f.0 stands within
-  stays y old (Checkpoints said) new quiet f stands within = stays_checked y old new said f stands within
+  stays y old (Checkpoints said) new quiet f stands within = stays_checked y old new said f.goes stands within
 
 module _ (meaning : Meaning) (lawful : IsLawful meaning) (key : List ℕ) where
   abbrev B : Instance

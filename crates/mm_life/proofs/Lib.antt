@@ -23,5 +23,6 @@ mod ClosingCounts
 mod Longer
 mod Writing
 mod OneRequest
+mod NotThere
 mod KilledPrograms
 pub mod Above

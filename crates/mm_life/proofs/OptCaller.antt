@@ -89,7 +89,7 @@ module _ (all others : List (List ℕ)) (asked : List Batch) (meaning : Meaning)
       let g = gone.goes.2.2.2.1 in
       unlost meaning key barrier all others asked (session_on empty p.old) (session_on end p.new) p.result f.1.1.1.0 g.0 _ _ g.2
       (still_open meaning key barrier closed empty f.1.1.0.0
-      ∙ shut_behind meaning key barrier first.after closed made f.1.0 s.digests s.stands)
+      ∙ shut_behind meaning key barrier first.after closed made f.1.0.goes s.digests s.stands)
 
 -- its stages
 abbrev stages_over : (old new : LifeStanding) (started : Devices) (middle closed empty : Standing) (between : StoreStanding)

@@ -201,7 +201,7 @@ module _ (meaning : Meaning) (key barrier : List ℕ) (all others : List (List �
   stays y old (Calls c) new quiet seen f stands within = absurd quiet
   stays y old (Extends values) new quiet seen f stands within = stays_extended y old new values f.0 f.1 seen stands within
   stays y old LosesPower new quiet seen f stands within = stays_emptied y old new f.0 f.1 stands within
-  stays y old (Checkpoints said) new quiet seen f stands within = stays_checked y old new said f seen stands within
+  stays y old (Checkpoints said) new quiet seen f stands within = stays_checked y old new said f.goes seen stands within
 
 -- a part is still where it is idle
 abbrev IsStill : Standing → List LifeCall → Type 0

@@ -220,10 +220,10 @@ module _ (meaning : Meaning) (key barrier : List ℕ) (all others : List (List �
       checked : (flag : Bool) → has_open_segment old ≡ flag → has_open_segment new ≡ true → register_reading new ≢ Some zero_bytes
       checked true was e =
           let told = items_told meaning key barrier old.items d.register s.reads in
-          let on = check_goes_on meaning key barrier f d s told.0 told.1 in
+          let on = check_goes_on meaning key barrier f.goes d s told.0 told.1 in
           stays_nonzero all clear told.0 on.0 old.items new.items told.1 on.1 (powered was) (seen was)
       checked false was e =
-          let clash : true ≡ false = sym e ∙ still_shut old new said f d s was in absurd (cc)
+          let clash : true ≡ false = sym e ∙ still_shut old new said f.goes d s was in absurd (cc)
 
   pub opt_never_lost : (stages : List LifeStage) (kept : StoreStanding) (start : Standing) (f : IsLife Opt meaning start stages)
       (d : Digests) → StandsAt O start d → (requests after : List (List ℕ)) → GoesOnFrom all others asked O start stages f requests after

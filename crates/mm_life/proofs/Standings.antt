@@ -50,7 +50,7 @@ module _ (variant : Variant) (meaning : Meaning) (key barrier : List ℕ) where
       (λ items e. (items ++ map foreign_item values, f.1 ∙ ap (λ (xs : Option (List Item)). items_beside values xs) e))
   deed_stands old LosesPower new f d s =
       stands_still old new d s f.0 (λ items e. ([], f.1 ∙ ap (λ (xs : Option (List Item)). option_map (λ _. []) xs) e))
-  deed_stands old (Checkpoints said) new f d s = record { digests = _; stands = (f.goes variant meaning key barrier d s).stands }
+  deed_stands old (Checkpoints said) new f d s = record { digests = _; stands = (f.goes.goes variant meaning key barrier d s).stands }
 
   pub part_stands : (old : Standing) (part : LifePart) (new : Standing) → PartLeads variant meaning old part new → (d : Digests)
       → StandsAt I old d → StandsSomewhere I new

@@ -73,7 +73,7 @@ module _ (meaning : Meaning) (key : List ℕ) where
   basic_part old (Does (Extends values)) new f d s = still_counts old new values
   basic_part old (Does LosesPower) new f d s = lost_counts old new
   basic_part old (Does (Checkpoints said)) new f d s =
-      let c = basic_checked meaning key key old new said f d s in
+      let c = basic_checked meaning key key old new said f.goes d s in
       record { in_hand = c.in_hand; few = c.few; writes = c.writes }
 
   basic_lives : (stages : List LifeStage) (start : Standing) (f : IsLife Basic meaning start stages) (d : Digests)
@@ -101,7 +101,7 @@ module _ (meaning : Meaning) (key barrier : List ℕ) where
   opt_part old (Does (Extends values)) new f d s = still_counts old new values
   opt_part old (Does LosesPower) new f d s = lost_counts old new
   opt_part old (Does (Checkpoints said)) new f d s =
-      let c = opt_checked meaning key barrier old new said f d s in
+      let c = opt_checked meaning key barrier old new said f.goes d s in
       record { in_hand = c.in_hand; few = c.few; writes = c.writes }
 
   opt_lives : (stages : List LifeStage) (start : Standing) (f : IsLife Opt meaning start stages) (d : Digests)

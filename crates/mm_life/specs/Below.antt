@@ -28,7 +28,6 @@ pub use Rattle.mm_call.specs.CallFinding.{finding_at, right_content}
 pub use Rattle.mm_call.specs.Levels.{list_level}
 pub use Rattle.mm_call.specs.Refusals.{fault_of}
 pub use Rattle.mm_call.specs.ShownItems.{foreign_items}
-pub use Rattle.mm_opt.specs.CheckpointOnCourse.{IsCheckpointOnCourse}
 pub use Rattle.mm_opt.specs.declared.segment.CheckpointRefusal.{CheckpointRefusal}
 pub use Rattle.mm_opt.specs.declared.segment.Checkpointed.{Checkpointed}
 pub use Rattle.mm_schedule.specs.Machine.{IsBatchStep}
@@ -40,6 +39,7 @@ pub use Rattle.mm_store.specs.PendingRecord.{PendingRecord}
 pub use Rattle.mm_store.specs.Slots.{Slots, slot_front}
 pub use Rattle.mm_store.specs.declared.fault.StoreFault.{StoreFault}
 pub use Rattle.mm_recovery.specs.HostStanding.{HostStanding, host_standing}
+pub use Rattle.mm_recovery.specs.Elsewhere.{IsCheckpoint, LeavesCell, LivesElsewhere}
 pub use Rattle.mm_recovery.specs.HostCall.{IsCall}
 pub use Rattle.mm_recovery.specs.FirstStart.{first_history_on, first_slots}
 pub use Rattle.mm_recovery.specs.SlotFit.{FitsHistory, first_offer}

@@ -1,7 +1,7 @@
 -- What is done to a platform between its programs, one deed at a time.
 use Rattle.std.specs.Prelude.{◌≡◌, ℕ, List, [], Result}
 use Rattle.std.specs.Option.{option_map}
-use Rattle.mm_life.specs.Below.{Variant, Standing, items_beside, Meaning, Answer, Refusal, IsCall, IsCheckpointOnCourse, CheckpointRefusal}
+use Rattle.mm_life.specs.Below.{Variant, Standing, items_beside, Meaning, Answer, Refusal, IsCall, IsCheckpoint, CheckpointRefusal}
 use Rattle.mm_life.specs.Below.{Checkpointed}
 
 -- one call for a request: what was offered with it, and what it gave
@@ -26,4 +26,4 @@ DeedLeads variant meaning old (Extends values) new =
     (new.cell ≡ old.cell) × (new.items ≡ items_beside values old.items)
 DeedLeads variant meaning old LosesPower new =
     (new.cell ≡ old.cell) × (new.items ≡ option_map (λ _. []) old.items)
-DeedLeads variant meaning old (Checkpoints result) new = IsCheckpointOnCourse old new result
+DeedLeads variant meaning old (Checkpoints result) new = IsCheckpoint old new result

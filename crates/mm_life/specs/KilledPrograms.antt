@@ -6,7 +6,7 @@ use Rattle.mm_killed.specs.Stopping.{CallLeaves, TellsSame}
 use Rattle.mm_recovery.specs.FirstStart.{InitLeaves, InstanceBegins}
 use Rattle.mm_recovery.specs.Init.{Devices, devices}
 use Rattle.mm_recovery.specs.declared.init_fault.InitFault.{InitFault}
-use Rattle.mm_life.specs.Below.{Variant, Standing, StepFault, Meaning, IsCheckpointOnCourse, CheckpointRefusal, Checkpointed}
+use Rattle.mm_life.specs.Below.{Variant, Standing, StepFault, Meaning, IsCheckpoint, CheckpointRefusal, Checkpointed}
 use Rattle.mm_life.specs.Below.{SessionFault, SessionStanding, IsSession, session_standing}
 use Rattle.mm_life.specs.Deeds.{Checkpoints, DeedLeads, Extends, LosesPower}
 use Rattle.mm_life.specs.Stages.{Does, IsLife, LifeStage, ProgramStanding, program_standing, session_stage}
@@ -73,7 +73,7 @@ abbrev pub KilledCheckpointsLive : Type 0
 KilledCheckpointsLive =
     (variant : Variant) (meaning : Meaning)
     (code : ProgramCode (Result Checkpointed CheckpointRefusal)) (old left : Place) →
-    AllRuns code old (λ end said. IsCheckpointOnCourse old.standing end.standing said) →
+    AllRuns code old (λ end said. IsCheckpoint old.standing end.standing said) →
     IsKilled code old left → IsCheckpointOfLife variant meaning old left
 
 -- one each of whose runs is a loss of power, or failed at that: killed it is one, or nothing

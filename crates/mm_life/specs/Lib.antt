@@ -12,4 +12,5 @@ pub mod HonestLife
 pub mod OneStore
 pub mod LifeWrites
 pub mod OneRequest
+pub mod PartsElsewhere
 pub mod KilledPrograms

@@ -3,6 +3,7 @@
 ghost use Rattle.mm_life.specs.DeviceDeeds.{CyclesAreDeeds, ReadsAreDeeds};
 ghost use Rattle.mm_life.specs.DeedHistory.{BasicDeedsStay, OptDeedsStay};
 ghost use Rattle.mm_life.specs.OneRequest.{OneRequestMeetsPremises, OptRequestMeetsPremises};
+ghost use Rattle.mm_life.specs.PartsElsewhere.{PartsAreRefusedElsewhere};
 ghost use Rattle.mm_life.specs.LifeWrites.{BasicLivesWriteOnce, OptLivesWriteOnce};
 ghost use Rattle.mm_life.specs.Laws.{BasicLifeIsOne, LivesKeepPromises, LivesTellWhatWasSaid, NextMayStart, OptLifeIsOne, SessionsOfferSlots};
 
@@ -46,6 +47,13 @@ pub fn next_may_start()
 pub fn deeds_stay()
     ensures basic { BasicDeedsStay }
     ensures opt { OptDeedsStay }
+{}
+
+/// A part of a life over a platform on which the module doesn't live: each of its calls is refused,
+/// and the cell is as before. So a session on a platform that the module has left, or hasn't
+/// reached, tells nothing and changes nothing.
+pub fn parts_are_refused_elsewhere()
+    ensures { PartsAreRefusedElsewhere }
 {}
 
 /// A read of the cell, and a loss of power that was called for, are deeds.

@@ -2,6 +2,7 @@ use Rattle.std.proofs.Common.{ap}
 use Rattle.std.specs.Result.{result_err}
 use Rattle.mm_digest.specs.declared.variant.Variant.TheVariants.{Opt}
 use Rattle.mm_recovery.specs.Init.{devices}
+use Rattle.mm_recovery.proofs.Above.{is_checkpoint}
 use Rattle.mm_life.specs.OneStore.{life_standing}
 use Rattle.mm_life.proofs.OptCaller.{lives_over_checkpoint}
 use Rattle.mm_life.proofs.one_store.live_over_checkpoint.Goals as goal
@@ -23,7 +24,7 @@ returns-in-Ok-cycle g c =
     c.session-first.result c.checkpoint-said.result c.session-second.result (
       c.session-first.ensures.sessions,
       (
-        c.checkpoint-said.ensures.goes,
+        is_checkpoint _ _ _ c.checkpoint-said.ensures.closes c.checkpoint-said.ensures.goes,
         (
           (c.device_calls_are_deeds.ensures.cycles Opt (g.M.Module.meaning c.args.module.now)
               (g.P.Device.standing c.checkpoint-said.new.platform) (g.P.Device.standing c.cycle.new.self) (result_err c.cycle.result)
