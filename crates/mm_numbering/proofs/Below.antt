@@ -28,5 +28,5 @@ pub use Rattle.mm_outcome.specs.Premises.{asked_batches}
 pub use Rattle.mm_numbering.specs.Guards.{digest_items, events_of, HasAll}
 pub use Rattle.mm_numbering.specs.Listing.{pair_plus_one, first_number_of, number_of_first, is_zero, message_digests, messages_with, lower_pair}
 pub use Rattle.mm_numbering.specs.Listing.{shared_pair_in, shared_pair_with, zero_number_in}
-pub use Rattle.mm_numbering.specs.Lists.{AddsDigest, CountsDigests, ListsMessages, number_at, pair_of}
+pub use Rattle.mm_numbering.specs.Lists.{AddsDigest, AddsIfFirst, CountsDigests, ListsMessages, number_at, pair_of}
 pub use Rattle.mm_numbering.specs.Guards.{has_foreign_value, is_secured}

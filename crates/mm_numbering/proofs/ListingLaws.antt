@@ -3,8 +3,10 @@ use Rattle.mm_numbering.proofs.Below.{◌≡◌, ◌∙◌, ℕ, ◌+◌, ◌≤
 use Rattle.mm_numbering.proofs.Below.{sym, ap, arith, length-append, option_map, bytes_eq, nat_tests, nat_list_eq_equiv, bytes_eq-Decides}
 use Rattle.mm_numbering.proofs.Below.{slice_cmp, nat_cmp, is_eq, is_eq-slice_cmp, number_of_first, pair_plus_one, shared_pair_with}
 use Rattle.mm_numbering.proofs.Below.{shared_pair_in, is_zero, zero_number_in, lower_pair, first_number_of, pair_of, CountsDigests}
-use Rattle.mm_numbering.proofs.Below.{AddsDigest, number_at}
+use Rattle.mm_numbering.proofs.Below.{AddsDigest, AddsIfFirst, number_at}
 use Rattle.std.specs.BTreeMap as tree
+use Rattle.std.specs.Map.{lookup}
+use Rattle.std.proofs.Common.{subst}
 use Rattle.mm_numbering.specs.declared.digests.DigestIndex.{DigestIndex}
 
 more_here : (found : Option ℕ) (here : Bool) (last next : ℕ) → last + 1 ≡ next
@@ -131,15 +133,49 @@ counts-known ds old new x n h a found same shared = record {
   zero = zero_goes ds old new x h a;
 }
 
-pub counts-new : (ds : List (List ℕ)) (old new : DigestIndex) (x : List ℕ) → CountsDigests ds old → AddsDigest x old new
-    → number_at old x ≡ None
-    → ((d : List ℕ) → number_at new d ≡ cond (is_eq (slice_cmp nat_cmp x d)) (Some (old.count + 1)) (number_at old d))
-    → new.shared ≡ old.shared → CountsDigests (ds ++ x ∷ []) new
-counts-new ds old new x h a none goes same = record {
-  firsts = finds-new (number_at old) (number_at new) ds x h.firsts none (λ (d : List ℕ).
-      goes d ∙ ap (λ b. cond b (Some (old.count + 1)) (number_at old d)) (is_eq-slice_cmp x d ∙ nat_list_eq_equiv.symm x d)
+pub counts-first : (ds : List (List ℕ)) (old new : DigestIndex) (x : List ℕ) → CountsDigests ds old → AddsIfFirst x None old new
+    → CountsDigests (ds ++ x ∷ []) new
+counts-first ds old new x h a = record {
+  firsts = finds-new (number_at old) (number_at new) ds x h.firsts (sym a.found) (λ (d : List ℕ).
+      a.firsts d ∙ ap (λ b. cond b (Some (old.count + 1)) (number_at old d)) (is_eq-slice_cmp x d ∙ nat_list_eq_equiv.symm x d)
       ∙ ap (λ (n : ℕ). cond (bytes_eq d x) (Some (n + 1)) (number_at old d)) h.count);
-  count = a.count ∙ one_longer ds x old.count h.count;
-  shared = ap pair_of same ∙ h.shared ∙ sym (shared_by (number_at old) ds x None h.firsts none);
-  zero = zero_goes ds old new x h a;
+  count = (a.adds refl).count ∙ one_longer ds x old.count h.count;
+  shared = ap pair_of a.shared ∙ h.shared ∙ sym (shared_by (number_at old) ds x None h.firsts (sym a.found));
+  zero = zero_goes ds old new x h (a.adds refl);
 }
+
+pub adds_same : (x y : List ℕ) (first other : Option ℕ) (old new : DigestIndex) → x ≡ y → first ≡ other → AddsIfFirst x first old new
+    → AddsIfFirst y other old new
+adds_same x y first other old new same is adds =
+    subst (λ (z : List ℕ). AddsIfFirst z other old new) same (subst (λ (o : Option ℕ). AddsIfFirst x o old new) is adds)
+
+-- where a digest has come before, nothing changes
+
+same_by : (found : Option ℕ) (same : Bool) (n : ℕ) → (same ≡ true → found ≡ Some n) → cond same (Some n) found ≡ found
+same_by found true n h = sym (h refl)
+same_by found false n h = refl
+
+pub finds-still : (old new : DigestIndex) (x : List ℕ) (n : ℕ) → AddsIfFirst x (Some n) old new → (d : List ℕ)
+    → number_at new d ≡ number_at old d
+finds-still old new x n a d =
+    a.firsts d ∙ same_by (number_at old d) (is_eq (slice_cmp nat_cmp x d)) n
+    (λ same. ap (number_at old) ((bytes_eq-Decides d x).0 (sym (is_eq-slice_cmp x d ∙ nat_list_eq_equiv.symm x d) ∙ same)) ∙ sym a.found)
+
+pub counts-still : (ds : List (List ℕ)) (old new : DigestIndex) (x : List ℕ) (n : ℕ) → CountsDigests ds old → AddsIfFirst x (Some n) old new
+    → CountsDigests ds new
+counts-still ds old new x n h a = record {
+  firsts = λ (d : List ℕ). finds-still old new x n a d ∙ h.firsts d;
+  count = (a.stays refl).0 ∙ h.count;
+  shared = ap pair_of a.shared ∙ h.shared;
+  zero = (a.stays refl).1 ∙ h.zero;
+}
+
+-- the same entries have the same at each digest, also at one that is found
+pub stays_at : (olds news : List (List ℕ × ℕ)) (x : List ℕ) (n : ℕ) → Some n ≡ lookup (tree.is_at (slice_cmp nat_cmp x)) olds → news ≡ olds
+    → (d : List ℕ) → lookup (tree.is_at (slice_cmp nat_cmp d)) news
+    ≡ cond (is_eq (slice_cmp nat_cmp x d)) (Some n) (lookup (tree.is_at (slice_cmp nat_cmp d)) olds)
+stays_at olds news x n found same d =
+    ap (lookup (tree.is_at (slice_cmp nat_cmp d))) same
+    ∙ sym (same_by (lookup (tree.is_at (slice_cmp nat_cmp d)) olds) (is_eq (slice_cmp nat_cmp x d)) n
+    (λ is. ap (λ (y : List ℕ). lookup (tree.is_at (slice_cmp nat_cmp y)) olds)
+    ((bytes_eq-Decides d x).0 (sym (is_eq-slice_cmp x d ∙ nat_list_eq_equiv.symm x d) ∙ is)) ∙ sym found))

@@ -1,12 +1,12 @@
 -- The messages listed, once one more is.
-use Rattle.std.proofs.Common.{Result, Ok, Err, OnOk, ◌≤◌}
+use Rattle.std.proofs.Common.{◌≤◌}
 use Rattle.std.proofs.lemmas.List.{take_all, take_more}
 use Rattle.std.proofs.lemmas.Option.{slice_get_within, get_or_from_slice_get}
 use Rattle.mm_numbering.proofs.Below.{◌≡◌, ◌∙◌, ℕ, ◌+◌, Bool, true, false, cond, zero, suc, List, [], ◌∷◌, ◌++◌, length, Option, None, Some}
-use Rattle.mm_numbering.proofs.Below.{take, refl, sym, ap, ◌||◌, map-append, option_map, bytes_eq, bytes_eq-Decides, slice_cmp, nat_cmp}
-use Rattle.mm_numbering.proofs.Below.{is_eq, slice_get, list_any, list_any-append, number_of_first, sha256, messages_with, message_digests}
-use Rattle.mm_numbering.proofs.Below.{lower_pair, pair_of, AddsDigest, number_at, ListsMessages}
-use Rattle.mm_numbering.proofs.ListingLaws.{counts-known, counts-new}
+use Rattle.mm_numbering.proofs.Below.{take, refl, sym, ap, ◌||◌, map-append, option_map, bytes_eq, bytes_eq-Decides}
+use Rattle.mm_numbering.proofs.Below.{slice_get, list_any, list_any-append, number_of_first, sha256, messages_with, message_digests}
+use Rattle.mm_numbering.proofs.Below.{lower_pair, pair_of, AddsDigest, AddsIfFirst, number_at, ListsMessages}
+use Rattle.mm_numbering.proofs.ListingLaws.{counts-first, counts-known, counts-still}
 use Rattle.mm_numbering.specs.declared.messages.Numbers.{Numbers}
 
 with_known : (seen : List (List ℕ)) (m : List ℕ) → list_any (bytes_eq m) seen ≡ true → seen ≡ messages_with seen m
@@ -50,23 +50,27 @@ listed_at (y ∷ seen) m x (suc i) at same = ap (λ b. bytes_eq m y || b) (liste
 
 -- the messages stay, or one more is listed
 module _ (seen : List (List ℕ)) (old new : Numbers) (m : List ℕ) (h : ListsMessages seen old) where
-  pub lists-known : list_any (bytes_eq m) old.texts ≡ true → ListsMessages (messages_with seen m) old
-  lists-known is = rw (← with_known seen m (ap (list_any (bytes_eq m)) (sym h.texts) ∙ is)) h
-
   texts_with : new.texts ≡ old.texts ++ m ∷ [] → new.texts ≡ seen ++ m ∷ []
   texts_with more = more ∙ ap (λ (l : List (List ℕ)). l ++ m ∷ []) h.texts
 
-  pub lists-first : number_at old.digests (sha256 m) ≡ None → new.texts ≡ old.texts ++ m ∷ []
-      → AddsDigest (sha256 m) old.digests new.digests → new.digests.shared ≡ old.digests.shared
-      → ((d : List ℕ) → number_at new.digests d
-      ≡ cond (is_eq (slice_cmp nat_cmp (sha256 m) d)) (Some (old.digests.count + 1)) (number_at old.digests d))
+  pub lists-first : AddsIfFirst (sha256 m) None old.digests new.digests → new.texts ≡ old.texts ++ m ∷ []
       → ListsMessages (messages_with seen m) new
-  lists-first none more adds shared goes =
-      rw (← with_new seen m (unlisted seen m (sym (h.counts.firsts (sha256 m)) ∙ none))) (record {
+  lists-first adds more =
+      rw (← with_new seen m (unlisted seen m (sym (h.counts.firsts (sha256 m)) ∙ sym adds.found))) (record {
         texts = texts_with more;
         counts = rw (map-append sha256 seen (m ∷ []))
-            (counts-new (message_digests seen) old.digests new.digests (sha256 m) h.counts adds none goes shared);
+            (counts-first (message_digests seen) old.digests new.digests (sha256 m) h.counts adds);
       })
+
+  module _ (number : ℕ) (adds : AddsIfFirst (sha256 m) (Some number) old.digests new.digests) (same : new.texts ≡ old.texts) where
+    pub lists-still : ListsMessages seen new
+    lists-still = record {
+      texts = same ∙ h.texts;
+      counts = counts-still (message_digests seen) old.digests new.digests (sha256 m) number h.counts adds;
+    }
+
+    pub lists-known : list_any (bytes_eq m) old.texts ≡ true → ListsMessages (messages_with seen m) new
+    lists-known is = rw (← with_known seen m (ap (list_any (bytes_eq m)) (sym h.texts) ∙ is)) lists-still
 
   pub lists-shared : (number : ℕ) → number_at old.digests (sha256 m) ≡ Some number → list_any (bytes_eq m) old.texts ≡ false
       → new.texts ≡ old.texts ++ m ∷ [] → AddsDigest (sha256 m) old.digests new.digests → new.digests.firsts ≡ old.digests.firsts
@@ -78,11 +82,6 @@ module _ (seen : List (List ℕ)) (old new : Numbers) (m : List ℕ) (h : ListsM
         counts = rw (map-append sha256 seen (m ∷ []))
             (counts-known (message_digests seen) old.digests new.digests (sha256 m) number h.counts adds first firsts shared);
       })
-
--- what follows of two things that hold once it went well
-pub both_on_ok : {A E : Type 0} {P Q R : Type 0} (r : Result A E) → (P → Q → R) → OnOk r P → OnOk r Q → OnOk r R
-both_on_ok (Ok x) f p q = f p q
-both_on_ok (Err e) f p q = tt
 
 -- none of the first ones has these bytes, and the next hasn't
 pub none_more : (m : List ℕ) (xs : List (List ℕ)) (i : ℕ) (x : List ℕ) → list_any (bytes_eq m) (take i xs) ≡ false → slice_get xs i ≡ Some x

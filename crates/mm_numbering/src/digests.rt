@@ -1,16 +1,18 @@
 //! The digests of messages by their numbers.
 
-ghost use Rattle.std.specs.Prelude.{◌≡◌, ◌+◌, ◌-◌, ◌<◌, ◌≤◌, ◌^◌, [], ℕ, List, Option, Some, OnOk, if◌then◌else◌};
+ghost use Rattle.std.specs.Prelude.{◌≡◌, ◌+◌, ◌-◌, ◌<◌, ◌≤◌, ◌^◌, [], ℕ, List, Option, Some, IfOk, OnOk, if◌then◌else◌};
 ghost use Rattle.std.specs.BTreeMap.{get};
 ghost use Rattle.std.specs.Cmp.Lexicographic.{slice_cmp};
+ghost use Rattle.std.specs.Option.{unwrap_or};
 ghost use Rattle.std.specs.Ordering.{nat_cmp, is_eq};
 ghost use Rattle.mm_numbering.specs.Listing.{first_number_of, is_zero, lower_pair};
-ghost use Rattle.mm_numbering.specs.Lists.{pair_of, number_at, AddsDigest, CountsDigests};
+ghost use Rattle.mm_numbering.specs.Lists.{pair_of, number_at, AddsDigest, AddsIfFirst, CountsDigests};
 
 use mm_bytes::Memory;
 use mm_digest::{Digest, zero};
 use std::alloc::Global;
 use std::collections::BTreeMap;
+use std::collections::btree_map::Entry;
 
 /// The first number that is found, once this one is found or not.
 pub fn first_then(first: Option<u32>, is_found: bool, number: u32) -> Option<u32>
@@ -59,15 +61,24 @@ fn is_zero(digest: &Digest) -> bool
     *digest == zero()
 }
 
-/// Notes this number at a digest.
-fn put(firsts: &mut BTreeMap<[u8; 32], u32>, digest: [u8; 32], number: u32) -> Result<(), Memory>
-    ensures { OnOk result ((d : List ℕ) → get (slice_cmp nat_cmp) firsts.new d
-        ≡ (if is_eq (slice_cmp nat_cmp digest d) then Some number
+/// The number at a digest. Where there is none, this one is noted.
+fn first_or_noted(
+    firsts: &mut BTreeMap<[u8; 32], u32>,
+    digest: [u8; 32],
+    number: u32,
+) -> Result<Option<u32>, Memory>
+    ensures first { IfOk result (λ first. first ≡ get (slice_cmp nat_cmp) firsts.old digest) }
+    ensures noted { IfOk result (λ first. (d : List ℕ) → get (slice_cmp nat_cmp) firsts.new d
+        ≡ (if is_eq (slice_cmp nat_cmp digest d) then Some (unwrap_or first number)
         else get (slice_cmp nat_cmp) firsts.old d)) }
 {
-    match firsts.insert(digest, number) {
-        Ok(_) => Ok(()),
+    match firsts.entry(digest) {
         Err(_) => Err(Memory),
+        Ok(Entry::Occupied(entry)) => Ok(Some(*entry.get())),
+        Ok(Entry::Vacant(entry)) => {
+            entry.insert(number);
+            Ok(None)
+        }
     }
 }
 
@@ -84,26 +95,19 @@ impl DigestIndex {
         }
     }
 
-    /// The number of the first message of a digest.
-    pub fn first(&self, digest: &Digest) -> Option<u32>
-        ensures { result ≡ number_at self.now digest.now.bytes }
-    {
-        self.firsts.get(&digest.bytes).copied()
-    }
-
-    /// One more message, the first of its digest.
-    pub fn add_first(&mut self, digest: &Digest) -> Result<(), Memory>
+    /// One more message, if it is the first of its digest: None. Otherwise the number of that first
+    /// one, and nothing is counted. It seeks the digest once.
+    pub fn add_if_first(&mut self, digest: &Digest) -> Result<Option<u32>, Memory>
         requires { self.old.count < 2 ^ 32 - 1 }
         ensures rises { self.new.count ≤ self.old.count + 1 }
-        ensures adds { OnOk result (AddsDigest digest.now.bytes self.old self.new) }
-        ensures shared { self.new.shared ≡ self.old.shared }
-        ensures first { OnOk result ((d : List ℕ) → number_at self.new d
-            ≡ (if is_eq (slice_cmp nat_cmp digest.now.bytes d) then Some (self.old.count + 1)
-            else number_at self.old d)) }
+        ensures adds { IfOk result (λ first.
+            AddsIfFirst digest.now.bytes first self.old self.new) }
     {
-        put(&mut self.firsts, digest.bytes, self.count + 1)?;
-        self.count_one(digest);
-        Ok(())
+        let first = first_or_noted(&mut self.firsts, digest.bytes, self.count + 1)?;
+        if first.is_none() {
+            self.count_one(digest);
+        }
+        Ok(first)
     }
 
     /// One more message, of a digest whose first message has this number.

@@ -39,8 +39,8 @@ impl Numbers {
             → OnOk result (ListsMessages (messages_with seen message.now) self.new) }
         ensures rises { self.new.digests.count ≤ self.old.digests.count + 1 }
     {
-        match self.digests.first(message.digest()) {
-            None => self.list_first(message),
+        match self.digests.add_if_first(message.digest())? {
+            None => self.texts.push(message.as_slice()),
             Some(first) if self.is_numbered(first, message) || self.texts.has(message.as_slice()) =>
                 { Ok(()) }
             Some(first) => self.list_shared(first, message),
@@ -55,18 +55,6 @@ impl Numbers {
             Some(text) => message.as_slice() == text,
             None => false,
         }
-    }
-
-    // Lists a message whose digest no message has.
-    fn list_first(&mut self, message: &Message) -> Result<(), Memory>
-        requires count { self.old.digests.count < 2 ^ 32 - 1 }
-        requires none { number_at self.old.digests (sha256 message.now) ≡ None }
-        ensures lists { (seen : List (List ℕ)) → ListsMessages seen self.old
-            → OnOk result (ListsMessages (messages_with seen message.now) self.new) }
-        ensures rises { self.new.digests.count ≤ self.old.digests.count + 1 }
-    {
-        self.texts.push(message.as_slice())?;
-        self.digests.add_first(message.digest())
     }
 
     // Lists a message that hasn't come before, whose digest the message of this number has.
