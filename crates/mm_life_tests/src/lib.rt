@@ -1,13 +1,10 @@
-//! Callers of the laws of lives, of commands, of clients and of calls by steps come to an end over
-//! memory, and tell what they should; and a client's rule is the one that `examples/client` has.
-//! They stand apart from the crates that they call, since a crate with tests is proved twice by the
-//! gate, and from the device tests, beside which they are proved.
+//! Callers of the laws of lives and of calls by steps come to an end over memory, and tell what
+//! they should; and a client's rule is the one that `examples/client` has. Tests stand apart from
+//! the crates that they call, since a crate with tests is proved twice by the gate; and what is
+//! dear to prove in four crates, side by side: mm_client_tests, mm_work_tests and mm_copy_tests
+//! have the rest.
 #![tactic(auto)]
 
-#[cfg(test)]
-mod at_work;
-#[cfg(test)]
-mod clients;
 #[cfg(test)]
 mod hearings;
 #[cfg(test)]

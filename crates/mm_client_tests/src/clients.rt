@@ -72,25 +72,35 @@ fn has_heard_sums(alloc: Global, client: &Client) -> Result<bool, Memory> {
     Ok(true)
 }
 
+// Whether he is served by a program over new devices, behind these cuts.
+fn is_served(alloc: Global, variant: Variant, seed: u64, wanted: &[Bytes]) -> Result<bool, Memory> {
+    let mut entropy = MemSource::new(alloc, &[7; 64], &[])?;
+    let store = PageStore::new(alloc, MemPages::new(alloc)?)?;
+    let mut program = LocalProgram {
+        alloc,
+        variant,
+        module: Counter,
+        platform: TwoCell::new(MemRaw::new(alloc)),
+        store,
+        connection: Cuts { seed, left: 40 },
+    };
+    match serve_local_client(&mut program, &mut entropy, wanted, 44) {
+        Ok(client) => is_sure_of_all(alloc, &client),
+        Err(_) => Ok(false),
+    }
+}
+
+// He is sure that each of his requests was run.
+fn is_sure_of_all(alloc: Global, client: &Client) -> Result<bool, Memory> {
+    Ok(client.is_sure() && client.position() == 20 && has_heard_sums(alloc, client)?)
+}
+
 #[test]
 fn each_request_of_a_client_is_run_once(rt: HostRuntime) -> Result<(), Fail> {
     let alloc = rt.alloc();
     let wanted = requests(alloc)?;
     for (variant, seed) in [(Variant::Basic, 1), (Variant::Opt, 2), (Variant::Basic, 3)] {
-        let mut program = LocalProgram {
-            alloc,
-            variant,
-            module: Counter,
-            platform: TwoCell::new(MemRaw::new(alloc)),
-            store: PageStore::new(alloc, MemPages::new(alloc)?)?,
-            connection: Cuts { seed, left: 40 },
-        };
-        let mut entropy = MemSource::new(alloc, &[7; 64], &[])?;
-        let came = serve_local_client(&mut program, &mut entropy, wanted.as_slice(), 44);
-        let client = came.ok().ok_or("no client")?;
-        assert!(rt; client.is_sure());
-        assert_eq!(rt; client.position(), 20);
-        assert!(rt; has_heard_sums(alloc, &client)?);
+        assert!(rt; is_served(alloc, variant, seed, wanted.as_slice())?);
     }
     Ok(())
 }
