@@ -113,7 +113,7 @@ module _ (meaning : Meaning) (lawful : IsLawful meaning) (key : List ℕ) where
   all_seen all asked clear start (stage ∷ stages) f = (inl tt, all_seen all asked clear stage.after stages f.1)
 
   -- what was issued at the first start names its end
-  first_genuine : IsGenuine B first_history (issued_bytes B first_history)
+  pub first_genuine : IsGenuine B first_history (issued_bytes B first_history)
   first_genuine content right =
       subst (λ (x : Content). NamesPosition B first_history x)
       (issued_once B (issued_bytes B first_history) first_history content

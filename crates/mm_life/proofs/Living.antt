@@ -145,7 +145,7 @@ module _ {all others : List (List ℕ)} {asked : List Batch} {i : Instance} {IsS
   deed_lives y old deed new quiet f stands within (inr still) =
       stays_lives y new (life.stays_still y old deed new quiet still f stands within)
 
-  part_lives : (y : History) (old : Standing) (part : LifePart) (new : Standing) (f : PartLeads i.variant i.meaning old part new)
+  pub part_lives : (y : History) (old : Standing) (part : LifePart) (new : Standing) (f : PartLeads i.variant i.meaning old part new)
       → StandsFor i old y → IsWithin all others asked i y → IsSeenOrStill old part new f
       → IsFirstGenuine i y (part_calls i.variant i.meaning old part new f)
       → AreListed all asked i (part_calls i.variant i.meaning old part new f) → PartLived y old part new f

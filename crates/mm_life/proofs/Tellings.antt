@@ -32,14 +32,14 @@ abbrev asking : List ℕ → Event
 asking request = Ask [] Quiet Last (One request)
 
 -- A run of the machine, whose replies tell these lines.
-record Ran (meaning : Meaning) (requests : List (List ℕ)) (tellings : List Telling) (after : List (List ℕ)) : Type 0 where
-  events : List Event
-  replies : List Reply
-  runs : IsEventRun meaning requests events replies after
-  tells : tellings_in replies ≡ tellings
+pub record Ran (meaning : Meaning) (requests : List (List ℕ)) (tellings : List Telling) (after : List (List ℕ)) : Type 0 where
+  pub events : List Event
+  pub replies : List Reply
+  pub runs : IsEventRun meaning requests events replies after
+  pub tells : tellings_in replies ≡ tellings
 
 module _ (meaning : Meaning) where
-  ran_none : (requests after : List (List ℕ)) → after ≡ requests → Ran meaning requests [] after
+  pub ran_none : (requests after : List (List ℕ)) → after ≡ requests → Ran meaning requests [] after
   ran_none requests after e = record { events = []; replies = []; runs = e; tells = refl }
 
   -- one more request in front
@@ -59,7 +59,7 @@ module _ (meaning : Meaning) where
   ran_kept requests between after request tellings grown r =
       ran_more requests between after request (Kept Drop (length between)) tellings (grown, refl) r
 
-  ran_same : (requests between after : List (List ℕ)) (tellings : List Telling) → between ≡ requests
+  pub ran_same : (requests between after : List (List ℕ)) (tellings : List Telling) → between ≡ requests
       → Ran meaning between tellings after → Ran meaning requests tellings after
   ran_same requests between after tellings e r = rw e at r
 
@@ -97,7 +97,7 @@ module _ (meaning : Meaning) where
       ])
 
 module _ (variant : Variant) (meaning : Meaning) where
-  ran_part : (old : Standing) (part : LifePart) (new : Standing) (f : PartLeads variant meaning old part new)
+  pub ran_part : (old : Standing) (part : LifePart) (new : Standing) (f : PartLeads variant meaning old part new)
       (requests between after : List (List ℕ)) (more : List Reply) → PartSteps variant meaning old part new f requests between
       → Ran meaning between (tellings_in more) after
       → Ran meaning requests (tellings_in (part_replies variant meaning old part new f ++ more)) after

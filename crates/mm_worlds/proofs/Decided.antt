@@ -1,0 +1,172 @@
+-- A world meets its premises or gives evidence, and never both.
+use Rattle.std.specs.List.{AllByRecursion, Contains}
+use Rattle.std.specs.Str.{bytes_eq}
+use Rattle.std.proofs.Common.{◌≡◌, ◌∙◌, ◌⊎◌, ℕ, List, [], ◌∷◌, Option, None, Some, Result, Ok, Err, refl, sym, subst, inl, inr}
+use Rattle.std.proofs.lemmas.List.Elements.{All-contains, All-from_recursion}
+use Rattle.std.proofs.lemmas.Slice.Eq.{bytes_eq-Decides}
+use Rattle.mm_digest.specs.declared.variant.Variant.TheVariants.{Basic, Opt}
+use Rattle.mm_seal.specs.Parts.{parts_of}
+use Rattle.mm_seal.specs.Snapshot.{Content}
+use Rattle.mm_platform.specs.Standing.{Standing}
+use Rattle.mm_module.specs.Meaning.{IsLawful, Meaning}
+use Rattle.mm_model.specs.Instance.{Instance}
+use Rattle.mm_model.specs.ListLaws.{each_self}
+use Rattle.mm_model.specs.Messages.{IsClear}
+use Rattle.mm_model.specs.Standing.{IsRight}
+use Rattle.mm_call.specs.CallFinding.{right_content}
+use Rattle.mm_call.specs.OfferLaws.{right_of}
+use Rattle.mm_call.proofs.Above.{each_at}
+use Rattle.mm_outcome.proofs.Above.{said_of}
+use Rattle.mm_evidence.proofs.Above.{clash_apart, clash_or, found_or_none}
+use Rattle.mm_life.specs.Premises.{IsUntagged}
+use Rattle.mm_move.specs.Orders.{right_ticket}
+use Rattle.mm_move.specs.Tickets.{TicketContent}
+use Rattle.mm_move.specs.declared.link.Link.{Link}
+use Rattle.mm_move.specs.declared.refusal.MoveRefusal.{MoveRefusal}
+use Rattle.mm_worlds.specs.Evidence.{HasWorldBreach, HasWorldEvidence, IsWorldBreach, forged_offer, forged_ticket, nonce_twice}
+use Rattle.mm_worlds.specs.Handed.{Handed, snapshots_under}
+use Rattle.mm_worlds.specs.Laws.{BasicWorldIsOne, EvidenceIsNoPremise, WorldIsOneOrEvidence}
+use Rattle.mm_worlds.specs.OneWorld.{IsOneWorld}
+use Rattle.mm_worlds.specs.Platforms.{instance_of, key_of}
+use Rattle.mm_worlds.specs.Premises.{AreHonest, IsHonest, IsOwnTicket, first_handed, handed_after, nonces_in, offers_in, tickets_offered}
+use Rattle.mm_worlds.specs.Premises.{world_messages}
+use Rattle.mm_worlds.specs.Worlds.{IsWorldLife, World, WorldPart, WorldPartLeads, WorldStage, world_after}
+
+-- it is among these, or it isn't
+contains_or : (xs : List (List ℕ)) (x : List ℕ) → Contains xs x ⊎ (Contains xs x → ⊥)
+contains_or xs x = elim (found_or_none (bytes_eq x) xs) [
+  | inl f ↦ inl (subst (Contains xs) (sym ((bytes_eq-Decides x f.0).0 f.2)) f.1)
+  | inr none ↦ inr (λ there. none x there ((bytes_eq-Decides x x).1 refl))
+]
+
+-- each is as is asked, or one isn't
+each_or : (P : List ℕ → Type 0) (B : Type 0) (xs whole : List (List ℕ)) → AllByRecursion (Contains whole) xs
+    → ((x : List ℕ) → Contains whole x → B ⊎ P x) → B ⊎ AllByRecursion P xs
+each_or P B [] whole among or = inr tt
+each_or P B (x ∷ xs) whole among or = elim (or x among.0) [
+  | inl broken ↦ inl broken
+  | inr fine ↦ elim (each_or P B xs whole among.1 or) [
+    | inl broken ↦ inl broken
+    | inr rest ↦ inr (fine, rest)
+  ]
+]
+
+untagged_or : (i : Instance) (issued : List (List ℕ)) (offer : List ℕ)
+    → ((content : Content) × IsRight i offer content × (Contains issued offer → ⊥)) ⊎ IsUntagged i issued offer
+untagged_or i issued offer = elim (contains_or issued offer) [
+  | inl there ↦ inr (λ content right. there)
+  | inr none ↦ by_content (right_content i offer) refl none
+]
+  where
+    by_content : (said : Option Content) → right_content i offer ≡ said → (Contains issued offer → ⊥)
+        → ((content : Content) × IsRight i offer content × (Contains issued offer → ⊥)) ⊎ IsUntagged i issued offer
+    by_content None e none = inr (λ content right. let clash : None ≡ Some content = sym e ∙ said_of i offer content right in absurd (cc))
+    by_content (Some content) e none =
+        inl (content, right_of i offer (parts_of i.variant i.meaning.id offer) refl content e, none)
+
+ticket_or : (meaning : Meaning) (link : Link) (tickets : List (List ℕ)) (ticket : List ℕ)
+    → ((content : TicketContent) × (right_ticket meaning Basic link.key ticket ≡ Ok content) × (Contains tickets ticket → ⊥))
+    ⊎ IsOwnTicket Basic meaning link tickets ticket
+ticket_or meaning link tickets ticket = elim (contains_or tickets ticket) [
+  | inl there ↦ inr (λ content right. there)
+  | inr none ↦ by_read (right_ticket meaning Basic link.key ticket) refl none
+]
+  where
+    by_read : (read : Result TicketContent MoveRefusal) → right_ticket meaning Basic link.key ticket ≡ read → (Contains tickets ticket → ⊥)
+        → ((content : TicketContent) × (right_ticket meaning Basic link.key ticket ≡ Ok content) × (Contains tickets ticket → ⊥))
+        ⊎ IsOwnTicket Basic meaning link tickets ticket
+    by_read (Ok content) e none = inl (content, e, none)
+    by_read (Err why) e none = inr (λ content right. let clash : Err why ≡ Ok content = sym e ∙ right in absurd (cc))
+
+module _ (meaning : Meaning) (link : Link) where
+  module _ (handed : Handed) (old : Standing) (part : WorldPart) (new : Standing) (f : WorldPartLeads Basic meaning link old part new) where
+    abbrev Breach : Type 0
+    Breach = IsWorldBreach Basic meaning link handed old part new f
+
+    abbrev i : Instance
+    i = instance_of Basic meaning link old
+
+    abbrev issued : List (List ℕ)
+    issued = snapshots_under (key_of old) handed.snapshots
+
+    offers_or : Breach ⊎ AllByRecursion (IsUntagged i issued) (offers_in Basic meaning link old part new f)
+    offers_or =
+        each_or (IsUntagged i issued) Breach (offers_in Basic meaning link old part new f) (offers_in Basic meaning link old part new f)
+        (each_self [] (offers_in Basic meaning link old part new f)) (λ offer among. elim (untagged_or i issued offer) [
+          | inl forged ↦ inl (forged_offer offer forged.0 among forged.1 forged.2)
+          | inr fine ↦ inr fine
+        ])
+
+    tickets_or : Breach ⊎ AllByRecursion (IsOwnTicket Basic meaning link handed.tickets) (tickets_offered part)
+    tickets_or =
+        each_or (IsOwnTicket Basic meaning link handed.tickets) Breach (tickets_offered part) (tickets_offered part)
+        (each_self [] (tickets_offered part)) (λ ticket among. elim (ticket_or meaning link handed.tickets ticket) [
+          | inl forged ↦ inl (forged_ticket ticket forged.0 among forged.1 forged.2)
+          | inr fine ↦ inr fine
+        ])
+
+    nonces_or : Breach ⊎ AllByRecursion (λ (nonce : List ℕ). Contains handed.nonces nonce → ⊥) (nonces_in old part new)
+    nonces_or =
+        each_or (λ (nonce : List ℕ). Contains handed.nonces nonce → ⊥) Breach (nonces_in old part new) (nonces_in old part new)
+        (each_self [] (nonces_in old part new)) (λ nonce among. elim (contains_or handed.nonces nonce) [
+          | inl before ↦ inl (nonce_twice nonce among before)
+          | inr fine ↦ inr fine
+        ])
+
+    honest_or : Breach ⊎ IsHonest Basic meaning link handed old part new f
+    honest_or = elim offers_or [
+      | inl broken ↦ inl broken
+      | inr offers ↦ elim tickets_or [
+        | inl broken ↦ inl broken
+        | inr tickets ↦ elim nonces_or [
+          | inl broken ↦ inl broken
+          | inr nonces ↦ inr (record { offers = offers; tickets = tickets; nonces = nonces })
+        ]
+      ]
+    ]
+
+    honest_apart : IsHonest Basic meaning link handed old part new f → Breach → ⊥
+    honest_apart h (forged_offer offer content among right none) =
+        none (each_at (IsUntagged i issued) (offers_in Basic meaning link old part new f) offer h.offers among content right)
+    honest_apart h (forged_ticket ticket content among right none) =
+        none (each_at (IsOwnTicket Basic meaning link handed.tickets) (tickets_offered part) ticket h.tickets among content right)
+    honest_apart h (nonce_twice nonce among before) =
+        each_at (λ (n : List ℕ). Contains handed.nonces n → ⊥) (nonces_in old part new) nonce h.nonces among before
+
+  all_or : (stages : List WorldStage) (handed : Handed) (world : World) (f : IsWorldLife Basic meaning link world stages)
+      → HasWorldBreach Basic meaning link handed world stages f ⊎ AreHonest Basic meaning link handed world stages f
+  all_or [] handed world f = inr tt
+  all_or (stage ∷ stages) handed world f = elim (honest_or handed (world stage.at) stage.part stage.after f.0) [
+    | inl broken ↦ inl (inl broken)
+    | inr fine ↦ elim (all_or stages (handed_after Basic meaning link handed (world stage.at) stage.part stage.after f.0)
+    (world_after world stage) f.1) [
+      | inl broken ↦ inl (inr broken)
+      | inr rest ↦ inr (fine, rest)
+    ]
+  ]
+
+  all_apart : (stages : List WorldStage) (handed : Handed) (world : World) (f : IsWorldLife Basic meaning link world stages)
+      → AreHonest Basic meaning link handed world stages f → HasWorldBreach Basic meaning link handed world stages f → ⊥
+  all_apart [] handed world f honest broken = broken
+  all_apart (stage ∷ stages) handed world f honest (inl broken) =
+      honest_apart handed (world stage.at) stage.part stage.after f.0 honest.0 broken
+  all_apart (stage ∷ stages) handed world f honest (inr broken) =
+      all_apart stages (handed_after Basic meaning link handed (world stage.at) stage.part stage.after f.0) (world_after world stage) f.1
+      honest.1 broken
+
+pub one_or_evidence : BasicWorldIsOne → WorldIsOneOrEvidence
+one_or_evidence one meaning lawful link world stages f start =
+    elim (clash_or (instance_of Basic meaning link (world 0)) (world_messages Basic meaning link world stages f) [] []) [
+      | inl clash ↦ inr (inl clash)
+      | inr clear ↦ elim (all_or meaning link stages (first_handed Basic meaning link world) world f) [
+        | inl broken ↦ inr (inr broken)
+        | inr honest ↦ inl (one meaning lawful link world stages f start clear.0 honest)
+      ]
+    ]
+
+pub no_premise : EvidenceIsNoPremise
+no_premise meaning link world stages f clear honest (inl clash) =
+    clash_apart (instance_of Basic meaning link (world 0)) (world_messages Basic meaning link world stages f) [] [] clear
+    (λ opt. absurd (cc)) clash
+no_premise meaning link world stages f clear honest (inr broken) =
+    all_apart meaning link stages (first_handed Basic meaning link world) world f honest broken

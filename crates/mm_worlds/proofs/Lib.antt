@@ -1,0 +1,13 @@
+mod Cells
+mod Outcomes
+mod Between
+mod Orders
+mod Kept
+mod Inviting
+mod Papers
+mod Retiring
+mod Accepting
+mod LivingParts
+mod BasicWorld
+mod Promises
+mod Decided

@@ -1,0 +1,37 @@
+-- The words that the definitions of this crate take from the crates below.
+pub use Rattle.mm_digest.specs.Messages.{start_message}
+pub use Rattle.mm_digest.specs.declared.variant.Variant.{Variant}
+pub use Rattle.mm_digest.specs.declared.variant.Variant.TheVariants.{Basic}
+pub use Rattle.mm_seal.specs.Cell.{IsNoCell, blank_cell}
+pub use Rattle.mm_seal.specs.Snapshot.{Content}
+pub use Rattle.mm_seal.specs.declared.cell.CellFault.{CellFault}
+pub use Rattle.mm_platform.specs.Standing.{Standing}
+pub use Rattle.mm_module.specs.Batch.{Batch, One}
+pub use Rattle.mm_module.specs.Meaning.{IsLawful, Meaning}
+pub use Rattle.mm_modules.specs.Modules.{meaning_of}
+pub use Rattle.mm_modules.specs.declared.any.AnyModule.{AnyModule}
+pub use Rattle.mm_model.specs.History.{History, first_history, requests_of}
+pub use Rattle.mm_model.specs.Instance.{Instance}
+pub use Rattle.mm_model.specs.InstanceWords.{instance_by}
+pub use Rattle.mm_model.specs.Messages.{IsClear}
+pub use Rattle.mm_model.specs.Standing.{IsGenuine, IsRight, StandsFor, issued_bytes}
+pub use Rattle.mm_call.specs.CallFinding.{right_content}
+pub use Rattle.mm_call.specs.CallPremises.{right_messages}
+pub use Rattle.mm_schedule.specs.Promises.{ModulePromises}
+pub use Rattle.mm_schedule.specs.declared.reply.Reply.{Reply}
+pub use Rattle.mm_evidence.specs.Evidence.{HasClash}
+pub use Rattle.mm_move.specs.Cells.{moved_cell_of}
+pub use Rattle.mm_move.specs.Fields.{part}
+pub use Rattle.mm_move.specs.Moves.{MovePromise}
+pub use Rattle.mm_move.specs.Orders.{acceptance_in, invitation_in, retirement_in, right_ticket, waiting_for}
+pub use Rattle.mm_move.specs.Tickets.{TicketContent}
+pub use Rattle.mm_move.specs.declared.accepting.Accepted.{Accepted}
+pub use Rattle.mm_move.specs.declared.cell.MovedCell.{MovedCell}
+pub use Rattle.mm_move.specs.declared.inviting.Invited.{Invited}
+pub use Rattle.mm_move.specs.declared.link.Link.{Link}
+pub use Rattle.mm_move.specs.declared.refusal.MoveRefusal.{MoveRefusal}
+pub use Rattle.mm_sides.specs.Roles.{Blank, Live, Retired, Role, Waiting}
+pub use Rattle.mm_life.specs.Deeds.{LifeCall}
+pub use Rattle.mm_life.specs.OneList.{PartSteps, part_replies}
+pub use Rattle.mm_life.specs.Premises.{IsUntagged, call_batches, snapshots_of}
+pub use Rattle.mm_life.specs.Stages.{LifePart, PartLeads, part_calls}

@@ -1,0 +1,35 @@
+//! The laws of a world, each the contract of a function that does nothing, or calls what it needs.
+
+ghost use Rattle.mm_worlds.specs.Laws.{BasicWorldIsOne, EvidenceIsNoPremise, WorldIsOneOrEvidence, WorldsKeepPromises};
+
+use mm_schedule::laws::runs_keep_promises;
+
+/// Basic: whatever is done on any number of platforms behind a first start on one of them, programs
+/// over whatever is in their slots, moves in any order and number, each at any moment: there is one
+/// list of requests, and all that programs tell are steps on it; and the module is on one platform,
+/// which stands for a history of this list, or on its way.
+pub fn basic_world_is_one()
+    ensures { BasicWorldIsOne }
+{}
+
+/// With no premise but the start: it is one world, or one holds evidence in hand, a clash of two
+/// messages, or a part that breaks something: an offer or a ticket that is right, and wasn't handed
+/// out, or a nonce that is used twice.
+pub fn world_is_one_or_evidence()
+    ensures { WorldIsOneOrEvidence }
+{
+    basic_world_is_one();
+}
+
+/// A world that meets the premises gives no evidence.
+pub fn evidence_is_no_premise()
+    ensures { EvidenceIsNoPremise }
+{}
+
+/// What a module promises of one run holds over all platforms together: a limiter gives no more
+/// wrong guesses than it has tries between two `set` or `open`, wherever it is asked.
+pub fn worlds_keep_promises()
+    ensures { WorldsKeepPromises }
+{
+    runs_keep_promises();
+}

@@ -1,0 +1,9 @@
+//! A world of platforms: whatever is done on any number of them, between which a module moves over
+//! one link, is one list of requests, and the module is on one of them, or on its way.
+#![tactic(auto)]
+
+mod laws;
+
+pub use laws::{
+    basic_world_is_one, evidence_is_no_premise, world_is_one_or_evidence, worlds_keep_promises,
+};
