@@ -1,12 +1,11 @@
 -- An acceptance keeps the order of a world.
 use Rattle.std.specs.List.{AllByRecursion, Contains}
-use Rattle.std.specs.Prelude.{◌||◌, if◌then◌else◌, not}
+use Rattle.std.specs.Prelude.{◌||◌, not}
 use Rattle.std.specs.Str.{bytes_eq}
-use Rattle.std.proofs.Common.{◌≡◌, ◌∙◌, ◌++◌, ◌⊎◌, ℕ, Bool, true, false, List, [], ◌∷◌, Option, None, Some, Result, Ok, Err, refl, sym, ap, subst, inl, inr}
+use Rattle.std.proofs.Common.{◌≡◌, ◌∙◌, ◌++◌, ℕ, false, List, [], Option, None, Some, Result, Ok, Err, refl, sym, ap, subst, inl, inr}
 use Rattle.std.proofs.lemmas.List.{append-nil}
 use Rattle.mm_digest.specs.Messages.{zero_bytes}
 use Rattle.mm_digest.specs.LengthLaws.{length-zero_bytes}
-use Rattle.mm_digest.specs.declared.digest.Digest.{Digest}
 use Rattle.mm_digest.specs.declared.variant.Variant.{Variant}
 use Rattle.mm_digest.specs.declared.variant.Variant.TheVariants.{Basic}
 use Rattle.mm_seal.specs.Cell.{FitsVariant, cell_spelling}
@@ -62,7 +61,7 @@ module _ (meaning : Meaning) (link : Link) (ticket : List ℕ) where
   enters_by c ready (Ok content) is e =
       let a = passes (not (bytes_eq content.nonce c.nonce)) _ _ ready e in
       let same : record { next = Some (cell_spelling (live_cell_from c content.content)); answer = acceptance_of c.key content.content }
-          ≡ ready = (let both = a.1 in cc) in
+      ≡ ready = (let both = a.1 in cc) in
       record {
         answers = record { content = content; right = is; answer_is = sym (ap (λ (r : ReadyMove Accepted). r.answer) same) };
         nonce = bytes_tell content.nonce c.nonce (not_false (bytes_eq content.nonce c.nonce) a.0);

@@ -1,6 +1,6 @@
 -- Basic: a world is one.
 use Rattle.std.specs.List.{AllByRecursion, Contains}
-use Rattle.std.proofs.Common.{◌≡◌, ◌∙◌, ◌++◌, ℕ, List, [], ◌∷◌, Option, None, Some, Result, Ok, refl, sym, ap, subst, inl, inr}
+use Rattle.std.proofs.Common.{◌≡◌, ◌∙◌, ◌++◌, ℕ, List, [], ◌∷◌, Option, None, Some, refl, sym, subst, inl, inr}
 use Rattle.mm_digest.specs.Messages.{start_message}
 use Rattle.mm_digest.specs.declared.variant.Variant.TheVariants.{Basic}
 use Rattle.mm_platform.specs.Standing.{Standing}
@@ -10,17 +10,18 @@ use Rattle.mm_model.specs.History.{History, first_history, requests_of}
 use Rattle.mm_model.specs.Instance.{Instance}
 use Rattle.mm_model.specs.ListLaws.{each_left, each_right, each_self}
 use Rattle.mm_model.specs.Messages.{AreMessagesIn, IsClear}
-use Rattle.mm_model.specs.Standing.{IsGenuine, IsRight, StandsFor, cell_of}
+use Rattle.mm_model.specs.Standing.{IsGenuine, StandsFor, cell_of}
 use Rattle.mm_call.proofs.Above.{each_at}
+use Rattle.mm_life.specs.PartsElsewhere.{PartsAreRefusedElsewhere}
 use Rattle.mm_life.specs.Premises.{IsUntagged, call_batches}
 use Rattle.mm_life.proofs.Above.{AreListed, first_genuine, first_within}
 use Rattle.mm_move.specs.declared.cell.MovedCell.{MovedCell}
 use Rattle.mm_move.specs.declared.cell.MovedCell.TheVariants as moved
 use Rattle.mm_move.specs.declared.link.Link.{Link}
-use Rattle.mm_sides.specs.Roles.{Live, Retired, Role}
-use Rattle.mm_worlds.specs.Handed.{Handed, IsGenuineUnder, snapshots_under}
+use Rattle.mm_sides.specs.Roles.{Live, Role}
+use Rattle.mm_worlds.specs.Handed.{Handed, snapshots_under}
 use Rattle.mm_worlds.specs.Laws.{BasicWorldIsOne}
-use Rattle.mm_worlds.specs.OneWorld.{IsAway, IsSomewhere, WorldFollows, WorldPartSteps, lives, travels}
+use Rattle.mm_worlds.specs.OneWorld.{IsSomewhere, WorldFollows, WorldPartSteps, lives, travels}
 use Rattle.mm_worlds.specs.Platforms.{instance_of, key_of, role_of}
 use Rattle.mm_worlds.specs.Premises.{AreHonest, IsHonest, IsWorldAtStart, asked_messages, calls_in, first_handed, handed_after, handed_at_end}
 use Rattle.mm_worlds.specs.Premises.{messages_from, offers_to, world_messages}
@@ -43,7 +44,7 @@ batches_from meaning link world (stage ∷ stages) f =
     ++ batches_from meaning link (world_after world stage) stages f.1
 
 module _ (meaning : Meaning) (lawful : IsLawful meaning) (link : Link) (all : List (List ℕ)) (asked : List Batch)
-    (clear : IsClear all) where
+    (clear : IsClear all) (refuses : PartsAreRefusedElsewhere) where
   abbrev Stands : World → History → Handed → Type 0
   Stands world y handed = StandsInOrder meaning link all asked world y handed
 
@@ -84,7 +85,7 @@ module _ (meaning : Meaning) (lawful : IsLawful meaning) (link : Link) (all : Li
         → IsHonest Basic meaning link handed old part new f → AreListed all asked here (calls_in Basic meaning link old part new f)
         → Stepped part new f
     stepped (Lives part) new f honest listed =
-        let l = kept_living meaning lawful link all asked clear world y handed s at part new f honest.offers listed in
+        let l = kept_living meaning lawful link all asked clear refuses world y handed s at part new f honest.offers listed in
         record { after = l.after; stands = l.stands; steps = l.steps }
     stepped (Invites nonce key result) new f honest listed = record {
       after = y;
@@ -141,7 +142,8 @@ module _ (meaning : Meaning) (lawful : IsLawful meaning) (link : Link) (all : Li
         going = None;
         order = record {
           holds = each_changed (λ (other : ℕ) (held : Option MovedCell). HoldsCell meaning.id (world other) held) none 0 (Some first)
-              (record { formed = start.first.spells; own = (refl, refl); told = start.first.cell }) (λ other differs. start.others other differs);
+              (record { formed = start.first.spells; own = (refl, refl); told = start.first.cell })
+              (λ other differs. start.others other differs);
           placed = record {
             at = 0;
             key = key;
@@ -188,20 +190,20 @@ module _ (meaning : Meaning) (lawful : IsLawful meaning) (link : Link) (all : Li
         (record { spells = held.formed; cell = held.told; register = tt }))
         (λ other differs role. differs (o.placed.only other (is_live other role)))
 
-pub basic_is_one : BasicWorldIsOne
-basic_is_one meaning lawful link world stages f start clear honest =
+pub basic_is_one : PartsAreRefusedElsewhere → BasicWorldIsOne
+basic_is_one refuses meaning lawful link world stages f start clear honest =
     let all : List (List ℕ) = world_messages Basic meaning link world stages f in
     let asked : List Batch = batches_from meaning link world stages f in
     let handed : Handed = first_handed Basic meaning link world in
     let itself = each_self [] all in
-    let g = goes meaning lawful link all asked clear stages world first_history handed f
-    (starts meaning lawful link all asked clear world start itself.0) honest itself.1 (each_self [] asked) in
+    let g = goes meaning lawful link all asked clear refuses stages world first_history handed f
+    (starts meaning lawful link all asked clear refuses world start itself.0) honest itself.1 (each_self [] asked) in
     record {
       requests = _;
       follows = g.follows;
       history = g.after;
       holds = refl;
-      somewhere = somewhere meaning lawful link all asked clear (world_at_end world stages) g.after
+      somewhere = somewhere meaning lawful link all asked clear refuses (world_at_end world stages) g.after
           (handed_at_end Basic meaning link handed world stages f) g.stands g.stands.going g.stands.order;
       named = g.stands.named;
     }

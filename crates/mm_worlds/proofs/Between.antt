@@ -1,6 +1,6 @@
 -- What holds at each moment of a world: what each cell holds, where the module is, and who is awaited by which nonce.
 use Rattle.std.specs.List.{AllByRecursion, Contains}
-use Rattle.std.proofs.Common.{arith, ◌≡◌, ◌∙◌, ◌⊎◌, ◌++◌, ℕ, Bool, true, false, List, [], ◌∷◌, Option, None, Some, Result, Ok, refl, sym, ap, subst, inl, inr}
+use Rattle.std.proofs.Common.{arith, ◌≡◌, ◌⊎◌, ◌++◌, ℕ, Bool, true, false, List, [], ◌∷◌, Option, None, Some, Ok, refl, sym, ap, subst, inl, inr}
 use Rattle.std.specs.Prelude.{◌==◌, if◌then◌else◌}
 use Rattle.std.proofs.lemmas.Bool.Decides.{nat_tests}
 use Rattle.std.proofs.lemmas.List.Elements.{Contains-append_left}
@@ -16,7 +16,7 @@ use Rattle.mm_model.specs.History.{History}
 use Rattle.mm_model.specs.Instance.{Instance}
 use Rattle.mm_model.specs.InstanceWords.{basic_instance}
 use Rattle.mm_model.specs.Places.{IsPlaceOf, NamesPosition}
-use Rattle.mm_model.specs.Standing.{IsGenuine, cell_of}
+use Rattle.mm_model.specs.Standing.{cell_of}
 use Rattle.mm_move.specs.Orders.{right_ticket}
 use Rattle.mm_move.specs.Tickets.{TicketContent, summary_in}
 use Rattle.mm_move.specs.declared.cell.MovedCell.{MovedCell}
@@ -62,7 +62,8 @@ from_changed {A} P things at x other h = by_answer (other == at) refl h
     by_answer true e h = inl (same_number other at e, h)
     by_answer false e h = inr (other_number other at e, h)
 
-pub there_changed : {A : Type 0} (things : ℕ → A) (at : ℕ) (x : A) (other : ℕ) → (other ≡ at → ⊥) → changed_at things at x other ≡ things other
+pub there_changed : {A : Type 0} (things : ℕ → A) (at : ℕ) (x : A) (other : ℕ) → (other ≡ at → ⊥)
+    → changed_at things at x other ≡ things other
 there_changed {A} things at x other differs =
     by_test (λ (it : A). it ≡ things other) x (things other) (other == at) (λ e. absurd (differs (same_number other at e))) (λ e. refl)
 

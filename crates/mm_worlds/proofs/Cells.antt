@@ -2,7 +2,7 @@
 use Rattle.std.specs.Option.{option_map_or}
 use Rattle.std.proofs.Common.{◌≡◌, ◌∙◌, ℕ, List, [], Option, None, Some, Result, Ok, Err, refl, sym, ap}
 use Rattle.mm_digest.specs.declared.variant.Variant.TheVariants.{Basic}
-use Rattle.mm_seal.specs.Cell.{IsCell, IsNoCell, blank_cell, cell_spelling}
+use Rattle.mm_seal.specs.Cell.{IsNoCell, blank_cell, cell_spelling}
 use Rattle.mm_seal.specs.declared.cell.CellFault.{CellFault}
 use Rattle.mm_seal.specs.declared.cell.CellFault.TheVariants as fault
 use Rattle.mm_platform.specs.Standing.{Standing}
@@ -11,7 +11,7 @@ use Rattle.mm_move.specs.Fields.{part}
 use Rattle.mm_move.specs.declared.cell.MovedCell.{MovedCell}
 use Rattle.mm_move.specs.declared.cell.MovedCell.TheVariants as moved
 use Rattle.mm_move.proofs.Above.{blank_read, bytes_are, moved_back, three}
-use Rattle.mm_sides.specs.Roles.{Blank, Live, Retired, Role, Waiting}
+use Rattle.mm_sides.specs.Roles.{Blank, Live}
 use Rattle.mm_worlds.specs.Platforms.{key_of, role_in, role_of}
 
 -- of Basic, and of the module with this id

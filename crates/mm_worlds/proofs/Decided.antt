@@ -2,16 +2,14 @@
 use Rattle.std.specs.List.{AllByRecursion, Contains}
 use Rattle.std.specs.Str.{bytes_eq}
 use Rattle.std.proofs.Common.{◌≡◌, ◌∙◌, ◌⊎◌, ℕ, List, [], ◌∷◌, Option, None, Some, Result, Ok, Err, refl, sym, subst, inl, inr}
-use Rattle.std.proofs.lemmas.List.Elements.{All-contains, All-from_recursion}
 use Rattle.std.proofs.lemmas.Slice.Eq.{bytes_eq-Decides}
-use Rattle.mm_digest.specs.declared.variant.Variant.TheVariants.{Basic, Opt}
+use Rattle.mm_digest.specs.declared.variant.Variant.TheVariants.{Basic}
 use Rattle.mm_seal.specs.Parts.{parts_of}
 use Rattle.mm_seal.specs.Snapshot.{Content}
 use Rattle.mm_platform.specs.Standing.{Standing}
-use Rattle.mm_module.specs.Meaning.{IsLawful, Meaning}
+use Rattle.mm_module.specs.Meaning.{Meaning}
 use Rattle.mm_model.specs.Instance.{Instance}
 use Rattle.mm_model.specs.ListLaws.{each_self}
-use Rattle.mm_model.specs.Messages.{IsClear}
 use Rattle.mm_model.specs.Standing.{IsRight}
 use Rattle.mm_call.specs.CallFinding.{right_content}
 use Rattle.mm_call.specs.OfferLaws.{right_of}
@@ -23,10 +21,9 @@ use Rattle.mm_move.specs.Orders.{right_ticket}
 use Rattle.mm_move.specs.Tickets.{TicketContent}
 use Rattle.mm_move.specs.declared.link.Link.{Link}
 use Rattle.mm_move.specs.declared.refusal.MoveRefusal.{MoveRefusal}
-use Rattle.mm_worlds.specs.Evidence.{HasWorldBreach, HasWorldEvidence, IsWorldBreach, forged_offer, forged_ticket, nonce_twice}
+use Rattle.mm_worlds.specs.Evidence.{HasWorldBreach, IsWorldBreach, forged_offer, forged_ticket, nonce_twice}
 use Rattle.mm_worlds.specs.Handed.{Handed, snapshots_under}
 use Rattle.mm_worlds.specs.Laws.{BasicWorldIsOne, EvidenceIsNoPremise, WorldIsOneOrEvidence}
-use Rattle.mm_worlds.specs.OneWorld.{IsOneWorld}
 use Rattle.mm_worlds.specs.Platforms.{instance_of, key_of}
 use Rattle.mm_worlds.specs.Premises.{AreHonest, IsHonest, IsOwnTicket, first_handed, handed_after, nonces_in, offers_in, tickets_offered}
 use Rattle.mm_worlds.specs.Premises.{world_messages}
@@ -139,10 +136,10 @@ module _ (meaning : Meaning) (link : Link) where
   all_or (stage ∷ stages) handed world f = elim (honest_or handed (world stage.at) stage.part stage.after f.0) [
     | inl broken ↦ inl (inl broken)
     | inr fine ↦ elim (all_or stages (handed_after Basic meaning link handed (world stage.at) stage.part stage.after f.0)
-    (world_after world stage) f.1) [
-      | inl broken ↦ inl (inr broken)
-      | inr rest ↦ inr (fine, rest)
-    ]
+        (world_after world stage) f.1) [
+          | inl broken ↦ inl (inr broken)
+          | inr rest ↦ inr (fine, rest)
+        ]
   ]
 
   all_apart : (stages : List WorldStage) (handed : Handed) (world : World) (f : IsWorldLife Basic meaning link world stages)

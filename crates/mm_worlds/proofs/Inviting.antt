@@ -23,9 +23,9 @@ use Rattle.mm_move.specs.declared.refusal.MoveRefusal.{MoveRefusal}
 use Rattle.mm_move.proofs.Above.{bytes_tell, length-zero_bytes, moved_back}
 use Rattle.mm_worlds.specs.Handed.{Handed, used_nonces}
 use Rattle.mm_worlds.specs.Platforms.{has_same_cell}
-use Rattle.mm_worlds.proofs.Cells.{HoldsCell, HoldsOwn, IsLiveCell, bytes_held, held_read, held_told, reading_of}
+use Rattle.mm_worlds.proofs.Cells.{HoldsCell, IsLiveCell, bytes_held, held_read, held_told, reading_of}
 use Rattle.mm_worlds.proofs.Outcomes.{MoveOutcome, made, move_comes, refused, repeated}
-use Rattle.mm_worlds.proofs.Between.{IsInOrder, LeftFor, changed_at, left_for_on, papers_on}
+use Rattle.mm_worlds.proofs.Between.{LeftFor, changed_at, left_for_on, papers_on}
 use Rattle.mm_worlds.proofs.Orders.{known_back, order_invited}
 use Rattle.mm_worlds.proofs.Kept.{StandsInOrder, handed_more, kept_still}
 
@@ -71,7 +71,8 @@ module _ (meaning : Meaning) (link : Link) (all : List (List ℕ)) (asked : List
 
   writes : HoldsCell meaning.id old (s.cells at) → IsWaiting next → (bytes : List ℕ) → IsInvited next (s.cells at) bytes
       → new.cell ≡ Some bytes → AllByRecursion (λ (n : List ℕ). Contains handed.nonces n → ⊥) (used_nonces nonce old new)
-      → StandsInOrder meaning link all asked (changed_at world at new) y (handed_more meaning link all asked handed [] [] (used_nonces nonce old new))
+      → StandsInOrder meaning link all asked (changed_at world at new) y
+      (handed_more meaning link all asked handed [] [] (used_nonces nonce old new))
   writes holds is bytes i wrote fresh =
       let wrote_so : new.cell ≡ Some (waiting_spelling next) = wrote ∙ ap (λ (b : List ℕ). Some b) i.is in
       let used : used_nonces nonce old new ≡ nonce ∷ [] = changes holds i.other is wrote_so (has_same_cell old new) refl in
@@ -98,7 +99,8 @@ module _ (meaning : Meaning) (link : Link) (all : List (List ℕ)) (asked : List
   comes : (result : Result Invited MoveRefusal) → HoldsCell meaning.id old (s.cells at) → IsWaiting next
       → AllByRecursion (λ (n : List ℕ). Contains handed.nonces n → ⊥) (used_nonces nonce old new)
       → MoveOutcome (invitation_in next (reading_of (s.cells at))) old new result
-      → StandsInOrder meaning link all asked (changed_at world at new) y (handed_more meaning link all asked handed [] [] (used_nonces nonce old new))
+      → StandsInOrder meaning link all asked (changed_at world at new) y
+      (handed_more meaning link all asked handed [] [] (used_nonces nonce old new))
   comes result holds is fresh (refused same none) =
       kept_still meaning link all asked world y handed s at new same [] [] (used_nonces nonce old new) tt tt
   comes result holds is fresh (repeated ready f n same gives) =
@@ -109,7 +111,8 @@ module _ (meaning : Meaning) (link : Link) (all : List (List ℕ)) (asked : List
   pub kept_inviting : (result : Result Invited MoveRefusal) → length nonce ≡ 32 → length key ≡ 32
       → MovePromise (λ bytes. invitation_in next (moved_cell_of bytes)) old new result
       → AllByRecursion (λ (n : List ℕ). Contains handed.nonces n → ⊥) (used_nonces nonce old new)
-      → StandsInOrder meaning link all asked (changed_at world at new) y (handed_more meaning link all asked handed [] [] (used_nonces nonce old new))
+      → StandsInOrder meaning link all asked (changed_at world at new) y
+      (handed_more meaning link all asked handed [] [] (used_nonces nonce old new))
   kept_inviting result long_nonce long_key m fresh =
       comes result (s.order.holds at)
       (record { nonce = long_nonce; key = long_key; barrier = length-zero_bytes; variant = (refl, refl) }) fresh

@@ -1,12 +1,12 @@
 -- A part of a life keeps the order of a world: it goes on where the module lives; elsewhere nothing is told or changed.
-use Rattle.std.specs.List.{AllByRecursion, Contains}
+use Rattle.std.specs.List.{AllByRecursion}
 use Rattle.std.specs.Prelude.{IsErr}
 use Rattle.std.specs.Str.{bytes_eq}
-use Rattle.std.proofs.Common.{◌≡◌, ◌∙◌, ◌++◌, ℕ, Bool, List, [], ◌∷◌, Option, None, Some, Result, Ok, Err, refl, sym, ap, subst, inl}
+use Rattle.std.proofs.Common.{◌≡◌, ◌∙◌, ◌++◌, ℕ, List, [], ◌∷◌, Option, None, Some, Result, Ok, Err, refl, sym, ap, subst, inl}
 use Rattle.std.proofs.lemmas.List.{append-nil}
 use Rattle.mm_base.specs.declared.replay_fault.ReplayFault.TheVariants.{WriteFault}
 use Rattle.mm_digest.specs.declared.variant.Variant.{Variant}
-use Rattle.mm_digest.specs.declared.variant.Variant.TheVariants.{Basic}
+use Rattle.mm_digest.specs.declared.variant.Variant.TheVariants.{Basic, Opt}
 use Rattle.mm_seal.specs.Snapshot.{Content}
 use Rattle.mm_seal.specs.declared.cell.Cell.{Cell}
 use Rattle.mm_platform.specs.Standing.{Standing}
@@ -22,19 +22,20 @@ use Rattle.mm_model.specs.declared.answer.Answer.{Answer}
 use Rattle.mm_model.specs.declared.refusal.Refusal.{Refusal}
 use Rattle.mm_call.specs.CallPremises.{IsWithin}
 use Rattle.mm_call.proofs.Above.{each_at}
-use Rattle.mm_host.specs.AnySlots.{offer_after}
-use Rattle.mm_host.specs.Continuation.{CallsRunOver, IsToldInPart, last_bytes_in}
+use Rattle.mm_host.specs.Continuation.{CallsRunOver, IsToldInPart}
 use Rattle.mm_host.specs.Sessions.{ServedCall}
 use Rattle.mm_host.specs.declared.fault.SessionFault.{SessionFault}
 use Rattle.mm_host.specs.declared.fault.SessionFault.TheVariants.{Lines}
 use Rattle.mm_host.proofs.Above.{TellsCall, told_in_part}
+use Rattle.mm_recovery.specs.Elsewhere.{LivesElsewhere}
 use Rattle.mm_recovery.specs.declared.fault.HostFault.{HostFault}
 use Rattle.mm_recovery.specs.declared.resuming.Resumed.{Resumed}
 use Rattle.mm_recovery.specs.declared.resuming.Resumed.TheVariants.{Answered}
 use Rattle.mm_life.specs.Deeds.{Calls, Checkpoints, Extends, LifeCall, LosesPower}
-use Rattle.mm_life.specs.OneList.{CallSteps, PartSteps, SessionSteps}
+use Rattle.mm_life.specs.OneList.{CallSteps, PartSteps}
+use Rattle.mm_life.specs.PartsElsewhere.{FindsNoCell, PartsAreRefusedElsewhere}
 use Rattle.mm_life.specs.Premises.{IsUntagged, issued_snapshot_in, snapshots_of}
-use Rattle.mm_life.specs.SessionCalls.{IsInHandOf, first_bytes, served_calls_of, told_calls, untold_calls}
+use Rattle.mm_life.specs.SessionCalls.{first_bytes, served_calls_of, told_calls, untold_calls}
 use Rattle.mm_life.specs.Stages.{Does, Holds, LifePart, PartLeads, Program, part_calls}
 use Rattle.mm_life.proofs.Above.{AreListed, Ends, IsFirstGenuine, basic_life, part_lives, rests, session_chain, stops}
 use Rattle.mm_move.specs.declared.cell.MovedCell.{MovedCell}
@@ -45,7 +46,6 @@ use Rattle.mm_sides.specs.Roles.{Live, Role}
 use Rattle.mm_worlds.specs.Handed.{Handed, IsGenuineUnder, KeyedSnapshot, keyed_snapshots, snapshots_under}
 use Rattle.mm_worlds.specs.Platforms.{key_of, role_of}
 use Rattle.mm_worlds.specs.Premises.{calls_at, first_offers}
-use Rattle.mm_worlds.specs.Worlds.{LivesThere}
 use Rattle.mm_worlds.proofs.Cells.{HoldsCell, HoldsOwn, IsLiveCell, bytes_held, held_told, key_held, no_cell, role_held}
 use Rattle.mm_worlds.proofs.Between.{IsGoodPaper, IsInOrder, LeftFor, by_test, changed_at, instance_at, names_alike, papers_on}
 use Rattle.mm_worlds.proofs.Orders.{goes_on_left, order_lived}
@@ -158,8 +158,9 @@ all_named meaning link key y z names (s ∷ snapshots) g = (
 )
 
 module _ (meaning : Meaning) (lawful : IsLawful meaning) (link : Link) (all : List (List ℕ)) (asked : List Batch) (clear : IsClear all)
-    (world : ℕ → Standing) (y : History) (handed : Handed) (s : StandsInOrder meaning link all asked world y handed) (at : ℕ)
-    (part : LifePart) (new : Standing) (f : LivesThere Basic meaning (world at) part new) where
+    (refuses : PartsAreRefusedElsewhere) (world : ℕ → Standing) (y : History) (handed : Handed)
+    (s : StandsInOrder meaning link all asked world y handed) (at : ℕ)
+    (part : LifePart) (new : Standing) (f : PartLeads Basic meaning (world at) part new) where
   abbrev old : Standing
   old = world at
 
@@ -167,24 +168,40 @@ module _ (meaning : Meaning) (lawful : IsLawful meaning) (link : Link) (all : Li
   here = instance_at meaning link (key_of old)
 
   abbrev calls : List LifeCall
-  calls = part_calls Basic meaning old part new f.leads
+  calls = part_calls Basic meaning old part new f
 
   -- where a part leads, and what it makes of the list
   pub record PartLived : Type 0 where
     pub after : History
     pub stands : StandsInOrder meaning link all asked (changed_at world at new) after
         (handed_more meaning link all asked handed (keyed_snapshots (key_of old) (snapshots_of calls)) [] [])
-    pub steps : PartSteps Basic meaning old part new f.leads (requests_of y.batches) (requests_of after.batches)
+    pub steps : PartSteps Basic meaning old part new f (requests_of y.batches) (requests_of after.batches)
+
+  lives_elsewhere : (held : Option MovedCell) → HoldsCell meaning.id old held → (IsLiveCell held → ⊥) → (variant : Variant) (id : ℕ)
+      → LivesElsewhere variant id old
+  lives_elsewhere held h away variant id = record {
+    bytes = bytes_held held;
+    told = held_told meaning.id old held h;
+    none = λ cell spells _ _. no_cell meaning.id old held h away cell spells.0 spells.1;
+  }
+
+  finds_none : (held : Option MovedCell) → HoldsCell meaning.id old held → (IsLiveCell held → ⊥) → (part : LifePart)
+      → FindsNoCell Basic meaning old part
+  finds_none held h away (Holds p) = lives_elsewhere held h away Basic meaning.id
+  finds_none held h away (Does (Calls c)) = lives_elsewhere held h away Basic meaning.id
+  finds_none held h away (Does (Extends values)) = lives_elsewhere held h away Basic meaning.id
+  finds_none held h away (Does LosesPower) = lives_elsewhere held h away Basic meaning.id
+  finds_none held h away (Does (Checkpoints said)) = λ id. lives_elsewhere held h away Opt id
 
   elsewhere : (held : Option MovedCell) → HoldsCell meaning.id old held → (IsLiveCell held → ⊥) → PartLived
   elsewhere held h away =
-      let x = f.elsewhere (bytes_held held) (held_told meaning.id old held h) (no_cell meaning.id old held h away) in
+      let x = refuses Basic meaning old part new f (finds_none held h away part) in
       record {
         after = y;
         stands = kept_still meaning link all asked world y handed s at new x.cell (keyed_snapshots (key_of old) (snapshots_of calls))
             [] []
             (rw (none_issued meaning link y calls x.refused) tt) tt;
-        steps = part_refused Basic meaning (requests_of y.batches) old part new f.leads x.refused;
+        steps = part_refused Basic meaning (requests_of y.batches) old part new f x.refused;
       }
 
   lives_on : (c : Cell) → s.cells at ≡ Some (moved.Live c) → HoldsOwn meaning.id old (moved.Live c)
@@ -204,7 +221,7 @@ module _ (meaning : Meaning) (lawful : IsLawful meaning) (link : Link) (all : Li
       subst (λ (k : List ℕ). StandsFor (instance_at meaning link k) old y) (sym key)
       (record { spells = held.formed; cell = held.told; register = tt }) in
       let within = within_alike meaning link.key (key_of old) all [] asked y link s.within in
-      let l = part_lives (basic_life meaning lawful (key_of old) all asked clear) y old part new f.leads stands within (inl tt) first
+      let l = part_lives (basic_life meaning lawful (key_of old) all asked clear) y old part new f stands within (inl tt) first
       listed in
       let After : List ℕ → List ℕ → Type 0 =
       LeftFor meaning link (changed_at s.cells at (Some (moved.Live (cell_of here l.after)))) (handed.nonces ++ []) None l.after in

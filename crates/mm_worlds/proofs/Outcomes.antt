@@ -5,7 +5,7 @@ use Rattle.mm_platform.specs.Standing.{Standing}
 use Rattle.mm_platform.specs.Steps.{ReadCell, StepGoes, WriteCell, cell_after}
 use Rattle.mm_platform.specs.declared.fault.StepFault.{StepFault}
 use Rattle.mm_move.specs.Cells.{moved_cell_of}
-use Rattle.mm_move.specs.Moves.{AreMoveSteps, EndsAfterRead, MakesMoveStep, MoveFinds, MoveGoesOn, WritesCell, move_answer}
+use Rattle.mm_move.specs.Moves.{AreMoveSteps, EndsAfterRead, MakesMoveStep, MoveGoesOn, move_answer}
 use Rattle.mm_move.specs.Refusals.{IsOrNoMemory}
 use Rattle.mm_move.specs.declared.cell.MovedCell.{MovedCell}
 use Rattle.mm_move.specs.declared.ready.ReadyMove.{ReadyMove}

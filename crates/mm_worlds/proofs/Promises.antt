@@ -1,5 +1,5 @@
 -- What is told on all platforms together is told in one run of the machine.
-use Rattle.std.proofs.Common.{◌≡◌, ◌++◌, ℕ, List, [], ◌∷◌, subst}
+use Rattle.std.proofs.Common.{◌++◌, ℕ, List, [], ◌∷◌, subst}
 use Rattle.mm_digest.specs.declared.variant.Variant.{Variant}
 use Rattle.mm_platform.specs.Standing.{Standing}
 use Rattle.mm_module.specs.Meaning.{Meaning}
@@ -20,7 +20,7 @@ module _ (variant : Variant) (meaning : Meaning) (link : Link) where
       → WorldPartSteps variant meaning link old part new f requests between → Ran meaning between (tellings_in more) after
       → Ran meaning requests (tellings_in (world_part_replies variant meaning link old part new f ++ more)) after
   ran_one old (Lives part) new f requests between after more steps r =
-      ran_part variant meaning old part new f.leads requests between after more steps r
+      ran_part variant meaning old part new f requests between after more steps r
   ran_one old (Invites nonce key result) new f requests between after more steps r =
       ran_same meaning requests between after (tellings_in more) steps r
   ran_one old (Retires nonce offer result) new f requests between after more steps r =

@@ -1,8 +1,8 @@
 -- A retirement keeps the order of a world.
-use Rattle.std.specs.List.{AllByRecursion, Contains}
-use Rattle.std.specs.Prelude.{if◌then◌else◌, length, not}
+use Rattle.std.specs.List.{AllByRecursion}
+use Rattle.std.specs.Prelude.{length, not}
 use Rattle.std.specs.Str.{bytes_eq}
-use Rattle.std.proofs.Common.{◌≡◌, ◌∙◌, ◌++◌, ℕ, Bool, true, false, List, [], ◌∷◌, Option, None, Some, Result, Ok, Err, refl, sym, ap, subst, inr}
+use Rattle.std.proofs.Common.{◌≡◌, ◌∙◌, ◌++◌, ℕ, true, List, [], Option, None, Some, Result, Ok, Err, refl, sym, ap, subst, inr}
 use Rattle.std.proofs.lemmas.List.{append-nil}
 use Rattle.mm_digest.specs.declared.digest.Digest.{Digest}
 use Rattle.mm_digest.specs.declared.variant.Variant.TheVariants.{Basic}
@@ -18,7 +18,7 @@ use Rattle.mm_model.specs.Standing.{IsGenuine, cell_of}
 use Rattle.mm_move.specs.Cells.{moved_cell_of, retired_spelling}
 use Rattle.mm_move.specs.Moves.{MovePromise}
 use Rattle.mm_move.specs.Orders.{is_other, is_place_at, retired_cell_from, retirement_by, retirement_in, right_offer, ticket_for}
-use Rattle.mm_move.specs.Tickets.{TicketContent, sealed_ticket}
+use Rattle.mm_move.specs.Tickets.{sealed_ticket}
 use Rattle.mm_move.specs.declared.cell.MovedCell.{MovedCell}
 use Rattle.mm_move.specs.declared.cell.MovedCell.TheVariants as moved
 use Rattle.mm_move.specs.declared.cell.RetiredCell.{RetiredCell}
@@ -71,7 +71,8 @@ module _ (meaning : Meaning) (link : Link) (nonce offer : List ℕ) where
   leaves_ready c ready e =
       let own = passes (is_other Basic meaning.id c.variant c.module) _ _ ready e in
       let shut = passes c.flag _ _ ready own.1 in
-      ready_by c.key c.summary (Some (retired_spelling (retired_cell_from c nonce))) ready (right_offer meaning Basic c.key offer) refl shut.1
+      ready_by c.key c.summary (Some (retired_spelling (retired_cell_from c nonce))) ready
+      (right_offer meaning Basic c.key offer) refl shut.1
 
   again_ready : (c : RetiredCell) (ready : ReadyMove (List ℕ))
       → retirement_in meaning Basic link nonce offer (Ok (moved.Retired c)) ≡ Ok ready
@@ -106,7 +107,8 @@ module _ (meaning : Meaning) (link : Link) (all : List (List ℕ)) (asked : List
 
   abbrev Kept : Result (List ℕ) MoveRefusal → Type 0
   Kept result =
-      StandsInOrder meaning link all asked (changed_at world at new) y (handed_more meaning link all asked handed [] (given_tickets result) [])
+      StandsInOrder meaning link all asked (changed_at world at new) y
+      (handed_more meaning link all asked handed [] (given_tickets result) [])
 
   abbrev Left : Option (List ℕ) → List ℕ → List ℕ → Type 0
   Left going = LeftFor meaning link s.cells handed.nonces going y

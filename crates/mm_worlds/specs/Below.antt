@@ -2,7 +2,7 @@
 pub use Rattle.mm_digest.specs.Messages.{start_message}
 pub use Rattle.mm_digest.specs.declared.variant.Variant.{Variant}
 pub use Rattle.mm_digest.specs.declared.variant.Variant.TheVariants.{Basic}
-pub use Rattle.mm_seal.specs.Cell.{IsNoCell, blank_cell}
+pub use Rattle.mm_seal.specs.Cell.{blank_cell}
 pub use Rattle.mm_seal.specs.Snapshot.{Content}
 pub use Rattle.mm_seal.specs.declared.cell.CellFault.{CellFault}
 pub use Rattle.mm_platform.specs.Standing.{Standing}

@@ -14,7 +14,7 @@ abbrev pub WorldPartSteps : (variant : Variant) (meaning : Meaning) (link : Link
     (part : WorldPart) (new : Standing) → WorldPartLeads variant meaning link old part new
     → List (List ℕ) → List (List ℕ) → Type 0
 WorldPartSteps variant meaning link old (Lives part) new f requests after =
-    PartSteps variant meaning old part new f.leads requests after
+    PartSteps variant meaning old part new f requests after
 WorldPartSteps variant meaning link old move new f requests after = after ≡ requests
 
 -- All stages are steps on one list, from these requests to those.
@@ -33,7 +33,7 @@ abbrev pub world_part_replies : (variant : Variant) (meaning : Meaning) (link : 
     (old : Standing) (part : WorldPart) (new : Standing)
     → WorldPartLeads variant meaning link old part new → List Reply
 world_part_replies variant meaning link old (Lives part) new f =
-    part_replies variant meaning old part new f.leads
+    part_replies variant meaning old part new f
 world_part_replies variant meaning link old move new f = []
 
 abbrev pub world_replies : (variant : Variant) (meaning : Meaning) (link : Link) (world : World)

@@ -25,7 +25,9 @@ abbrev pub instance_of : Variant → Meaning → Link → Standing → Instance
 instance_of variant meaning link standing =
     instance_by variant meaning (key_of standing) link.barrier
 
--- whether the cell has the same bytes
+-- the bytes of the cell, and whether they are the same
+abbrev pub cell_bytes : Standing → List ℕ
+cell_bytes standing = option_map_or (λ bytes. bytes) standing.cell []
+
 abbrev pub has_same_cell : Standing → Standing → Bool
-has_same_cell old new =
-    bytes_eq (option_map_or (λ bytes. bytes) old.cell []) (option_map_or (λ bytes. bytes) new.cell [])
+has_same_cell old new = bytes_eq (cell_bytes old) (cell_bytes new)

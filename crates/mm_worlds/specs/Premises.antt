@@ -30,7 +30,7 @@ abbrev pub snapshots_in : (variant : Variant) (meaning : Meaning) (link : Link) 
     (part : WorldPart) (new : Standing) → WorldPartLeads variant meaning link old part new
     → List KeyedSnapshot
 snapshots_in variant meaning link old (Lives part) new f =
-    keyed_snapshots (key_of old) (snapshots_of (part_calls variant meaning old part new f.leads))
+    keyed_snapshots (key_of old) (snapshots_of (part_calls variant meaning old part new f))
 snapshots_in variant meaning link old (Accepts ticket result) new f =
     accepted_snapshots (key_of old) result
 snapshots_in variant meaning link old _ new f = []
@@ -70,7 +70,7 @@ abbrev pub calls_in : (variant : Variant) (meaning : Meaning) (link : Link) (old
     (part : WorldPart) (new : Standing) → WorldPartLeads variant meaning link old part new
     → List LifeCall
 calls_in variant meaning link old (Lives part) new f =
-    calls_at (role_of old) (part_calls variant meaning old part new f.leads)
+    calls_at (role_of old) (part_calls variant meaning old part new f)
 calls_in variant meaning link old _ new f = []
 
 -- What is offered first in a part of a life, where the module is; and to a retirement, where the
@@ -111,7 +111,8 @@ pub record IsHonest (variant : Variant) (meaning : Meaning) (link : Link) (hande
     (old : Standing) (part : WorldPart) (new : Standing)
     (f : WorldPartLeads variant meaning link old part new) : Type 0 where
   pub offers : AllByRecursion
-      (IsUntagged (instance_of variant meaning link old) (snapshots_under (key_of old) handed.snapshots))
+      (IsUntagged (instance_of variant meaning link old)
+      (snapshots_under (key_of old) handed.snapshots))
       (offers_in variant meaning link old part new f)
   pub tickets : AllByRecursion (IsOwnTicket variant meaning link handed.tickets)
       (tickets_offered part)

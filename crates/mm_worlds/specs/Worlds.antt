@@ -1,10 +1,8 @@
 -- A world of platforms, between which a module moves over one link: on each of them programs and
 -- deeds of any kind, and moves, one after another, whatever the slots hold when a program starts.
-use Rattle.std.specs.Prelude.{◌≡◌, ◌==◌, ℕ, List, [], ◌∷◌, length, Some, IsErr, Result, if◌then◌else◌}
-use Rattle.std.specs.List.{AllByRecursion}
-use Rattle.mm_worlds.specs.Below.{Variant, IsNoCell, Standing, Meaning, moved_cell_of, MovePromise, acceptance_in, invitation_in}
-use Rattle.mm_worlds.specs.Below.{retirement_in, waiting_for, Accepted, Invited, Link, MoveRefusal, LifeCall, LifePart, PartLeads}
-use Rattle.mm_worlds.specs.Below.{part_calls}
+use Rattle.std.specs.Prelude.{◌≡◌, ◌==◌, ℕ, List, [], ◌∷◌, length, Result, if◌then◌else◌}
+use Rattle.mm_worlds.specs.Below.{Variant, Standing, Meaning, moved_cell_of, MovePromise, acceptance_in, invitation_in}
+use Rattle.mm_worlds.specs.Below.{retirement_in, waiting_for, Accepted, Invited, Link, MoveRefusal, LifePart, PartLeads}
 
 -- On a platform: a part of a life, by which it holds a session, or a deed is done; or the module is
 -- invited under a nonce and a key, or retired for a nonce with an offer, or a ticket is accepted;
@@ -25,22 +23,10 @@ pub record WorldStage : Type 0 where
 abbrev pub World : Type 0
 World = ℕ → Standing
 
--- where no module lives the cell stays, and each call is refused
-pub record StaysElsewhere (old new : Standing) (calls : List LifeCall) : Type 0 where
-  pub cell : new.cell ≡ old.cell
-  pub refused : AllByRecursion (λ c. IsErr c.gives) calls
-
--- A part of a life leads a platform from one standing to another, as it does by the contracts of
--- what is called in it: also where the cell is no live one.
-pub record LivesThere (variant : Variant) (meaning : Meaning) (old : Standing) (part : LifePart)
-    (new : Standing) : Type 0 where
-  pub leads : PartLeads variant meaning old part new
-  pub elsewhere : (cell : List ℕ) → old.cell ≡ Some cell → IsNoCell cell →
-      StaysElsewhere old new (part_calls variant meaning old part new leads)
-
--- The part leads a platform from one standing to another: each move as its contract says.
+-- The part leads a platform from one standing to another: that of a life as there, and each move as
+-- its contract says.
 abbrev pub WorldPartLeads : Variant → Meaning → Link → Standing → WorldPart → Standing → Type 0
-WorldPartLeads variant meaning link old (Lives part) new = LivesThere variant meaning old part new
+WorldPartLeads variant meaning link old (Lives part) new = PartLeads variant meaning old part new
 WorldPartLeads variant meaning link old (Invites nonce key result) new =
     (length nonce ≡ 32) × (length key ≡ 32) × MovePromise
     (λ bytes. invitation_in (waiting_for link variant meaning.id nonce key) (moved_cell_of bytes))

@@ -2,6 +2,7 @@
 
 ghost use Rattle.mm_worlds.specs.Laws.{BasicWorldIsOne, EvidenceIsNoPremise, WorldIsOneOrEvidence, WorldsKeepPromises};
 
+use mm_life::parts_are_refused_elsewhere;
 use mm_schedule::laws::runs_keep_promises;
 
 /// Basic: whatever is done on any number of platforms behind a first start on one of them, programs
@@ -10,7 +11,9 @@ use mm_schedule::laws::runs_keep_promises;
 /// which stands for a history of this list, or on its way.
 pub fn basic_world_is_one()
     ensures { BasicWorldIsOne }
-{}
+{
+    parts_are_refused_elsewhere();
+}
 
 /// With no premise but the start: it is one world, or one holds evidence in hand, a clash of two
 /// messages, or a part that breaks something: an offer or a ticket that is right, and wasn't handed
