@@ -1,0 +1,5 @@
+mod Faultless
+mod Moving
+mod Reading
+mod Sizing
+mod Telling

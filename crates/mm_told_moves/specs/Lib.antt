@@ -1,0 +1,4 @@
+pub mod Findings
+pub mod MoveProtocol
+pub mod ToldMovePromise
+pub mod MovesOnHosts
