@@ -287,10 +287,24 @@ static enum host_status status_of(uint32_t said)
     }
 }
 
-/* Asks a request with the newest snapshot, and keeps the answer's. */
-static enum host_status ask_and_keep(struct host *host, const uint8_t *request, size_t length)
+/* The same of a batch. */
+static uint32_t call_batch(struct host *host, const uint8_t *requests, size_t length)
 {
-    host->said = call(host, request, length);
+    struct memoir_step steps[MEMOIR_STEPS];
+    for (size_t made = 0; made <= MEMOIR_STEPS; made++) {
+        uint32_t said = memoir_ask_batch(&host->instance, steps, made, host->snapshot, host->snapshot_length, requests,
+                                         length, &host->reply, host->room, host->room_length);
+        if (said != MEMOIR_NEXT || made == MEMOIR_STEPS)
+            return said;
+        steps[made] = host->reply.next;
+        make(host->devices, &steps[made]);
+    }
+    return MEMOIR_DIFFERS;
+}
+
+/* Keeps the snapshot of an answer. */
+static enum host_status keep(struct host *host)
+{
     if (host->said != MEMOIR_DONE)
         return status_of(host->said);
     host->position = host->reply.position;
@@ -298,6 +312,19 @@ static enum host_status ask_and_keep(struct host *host, const uint8_t *request, 
     memcpy(host->snapshot, host->room + host->reply.output_length, host->snapshot_length);
     return host->store->write(host->store->self, host->position % 2, host->snapshot, host->snapshot_length) ? HOST_DONE
                                                                                                          : HOST_STORE;
+}
+
+/* Asks a request with the newest snapshot, and keeps the answer's. */
+static enum host_status ask_and_keep(struct host *host, const uint8_t *request, size_t length)
+{
+    host->said = call(host, request, length);
+    return keep(host);
+}
+
+enum host_status host_ask_batch(struct host *host, const uint8_t *requests, size_t length)
+{
+    host->said = call_batch(host, requests, length);
+    return keep(host);
 }
 
 enum host_status host_ask(struct host *host, const uint8_t *request, size_t length)
@@ -316,22 +343,34 @@ enum host_status host_ask(struct host *host, const uint8_t *request, size_t leng
     return ask_and_keep(host, request, length);
 }
 
-enum host_status host_resume(struct host *host, bool *is_answered)
+/* The position of the later record of slots 2 and 3, and its request; 0 where there is none. */
+static bool later_record(const struct host_store *store, uint8_t *bytes, uint64_t *at, uint8_t *request, size_t *length)
 {
-    uint8_t request[MEMOIR_LONGEST_REQUEST], read[MEMOIR_LONGEST_REQUEST];
-    uint64_t at = 0, position;
-    size_t length = 0, read_length;
-    *is_answered = false;
+    uint8_t read[MEMOIR_LONGEST_REQUEST];
+    uint64_t position;
+    size_t size, read_length;
+    *at = 0;
     for (unsigned slot = 2; slot < 4; slot++) {
-        if (!host->store->read(host->store->self, slot, host->snapshot, &host->snapshot_length))
-            return HOST_STORE;
-        if (memoir_read_pending((uint8_t)slot, host->snapshot, host->snapshot_length, &position, &read_length, read,
-                                sizeof read) == MEMOIR_DONE && position > at) {
-            at = position;
-            length = read_length;
-            memcpy(request, read, length);
+        if (!store->read(store->self, slot, bytes, &size))
+            return false;
+        if (memoir_read_pending((uint8_t)slot, bytes, size, &position, &read_length, read, sizeof read) == MEMOIR_DONE &&
+            position > *at) {
+            *at = position;
+            *length = read_length;
+            memcpy(request, read, read_length);
         }
     }
+    return true;
+}
+
+enum host_status host_resume(struct host *host, bool *is_answered)
+{
+    uint8_t request[MEMOIR_LONGEST_REQUEST];
+    uint64_t at;
+    size_t length = 0;
+    *is_answered = false;
+    if (!later_record(host->store, host->snapshot, &at, request, &length))
+        return HOST_STORE;
     host->position = 0;
     if (!host->store->read(host->store->self, at == 0 ? 0 : (at - 1) % 2, host->snapshot, &host->snapshot_length))
         return HOST_STORE;
@@ -410,6 +449,16 @@ enum host_status host_provision(const struct host_devices *devices, const struct
     return status;
 }
 
+/* The host of an instance, with its rooms. */
+static enum host_status prepare(struct host *host)
+{
+    host->room_length = memoir_room(host->instance.module) + MEMOIR_LINES;
+    host->room = malloc(host->room_length);
+    host->memory = malloc(2 * host->room_length);
+    host->snapshot = malloc(HOST_LONGEST_SLOT);
+    return host->room && host->memory && host->snapshot ? HOST_DONE : HOST_MEMORY;
+}
+
 enum host_status host_open(struct host *host, const struct host_devices *devices, const struct host_store *store)
 {
     uint8_t cell[MEMOIR_CELL];
@@ -421,13 +470,7 @@ enum host_status host_open(struct host *host, const struct host_devices *devices
         return HOST_PLATFORM;
     enum host_status status = status_of(memoir_cell_instance(cell, &host->instance));
     wipe(cell, sizeof cell);
-    if (status != HOST_DONE)
-        return status;
-    host->room_length = memoir_room(host->instance.module);
-    host->room = malloc(host->room_length);
-    host->memory = malloc(2 * host->room_length);
-    host->snapshot = malloc(HOST_LONGEST_SLOT);
-    return host->room && host->memory && host->snapshot ? HOST_DONE : HOST_MEMORY;
+    return status == HOST_DONE ? prepare(host) : status;
 }
 
 void host_close(struct host *host)

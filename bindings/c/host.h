@@ -95,6 +95,11 @@ enum host_status host_resume(struct host *host, bool *is_answered);
 /* Asks the next request. */
 enum host_status host_ask(struct host *host, const uint8_t *request, size_t length);
 
+/* Asks up to 64 requests under one commit: the pieces of this text between bytes TAB. The room has a line for each. No
+ * record is kept of them: after HOST_PLATFORM ask the very same text again, and nothing else before. So it is for a program
+ * that keeps the text, and the snapshot it was asked on, itself, or has nothing that outlives it. */
+enum host_status host_ask_batch(struct host *host, const uint8_t *requests, size_t length);
+
 /* Closes the open segment of Opt; `is_closed` says whether one was open. */
 enum host_status host_checkpoint(const struct host_devices *devices, bool *is_closed);
 

@@ -2,7 +2,8 @@
  *
  *     limiter VARIANT [EVENT STEP] <LINES
  *
- * Each line is a request, `checkpoint` or `power`, and is answered as `memoir replay` does. VARIANT is basic or opt.
+ * Each line is a request, several with TABs between them as one batch, `checkpoint` or `power`, and is answered as
+ * `memoir replay` does; `writes` says how often the cell was written for them. VARIANT is basic or opt.
  * Where EVENT and STEP are given, power is cut in that event, a request counted from 1, just behind the effect of that
  * device step: the host stops there, with no word, and goes on as after any stop. */
 #define _POSIX_C_SOURCE 200809L
@@ -19,7 +20,7 @@
 static uint8_t cell[MEMOIR_CELL], reg[MEMOIR_REGISTER];
 static bool is_on = true;
 /* The step of this event behind which power is cut, 0 for none; and how many were made. */
-static unsigned long cut_step, step_number;
+static unsigned long cut_step, step_number, cell_writes;
 
 /* A step was made. A platform that is off makes none, and answers so. */
 static uint8_t made(void)
@@ -43,6 +44,7 @@ static uint8_t write_cell(void *self, const uint8_t bytes[MEMOIR_CELL])
     if (!is_on)
         return MEMOIR_OFF;
     memcpy(cell, bytes, MEMOIR_CELL);
+    cell_writes++;
     return made();
 }
 
@@ -129,13 +131,38 @@ static void tell(const struct host *host, enum host_status status)
         printf("no %s\n", cause(host));
 }
 
-/* One line: a request, or one of the two words. */
+/* A batch: a line for each of its requests. No record is kept of it, so it is asked again here, whatever stopped it. */
+static void serve_batch(struct host *host, const char *line, size_t length)
+{
+    enum host_status status = host_ask_batch(host, (const uint8_t *)line, length);
+    if (status == HOST_PLATFORM) {
+        power();
+        cut_step = 0;
+        status = host_ask_batch(host, (const uint8_t *)line, length);
+    }
+    if (status != HOST_DONE) {
+        tell(host, status);
+        return;
+    }
+    const char *at = (const char *)host->room, *end = at + host->reply.output_length, *lf;
+    uint64_t position = host->position;
+    for (size_t i = 0; i < length; i++)
+        position -= line[i] == '\t';
+    for (; at < end && (lf = memchr(at, '\n', (size_t)(end - at))); at = lf + 1)
+        printf("%s %llu %.*s\n", host->reply.again ? "again" : "ok", (unsigned long long)position++, (int)(lf - at), at);
+}
+
+/* One line: a request, a batch, or one of the three words. */
 static void serve(struct host *host, const char *line, size_t length)
 {
     bool is_it;
     if (length == 5 && memcmp(line, "power", 5) == 0) {
         power();
         puts("power");
+    } else if (length == 6 && memcmp(line, "writes", 6) == 0) {
+        printf("writes %lu\n", cell_writes);
+    } else if (memchr(line, '\t', length)) {
+        serve_batch(host, line, length);
     } else if (length == 10 && memcmp(line, "checkpoint", 10) == 0) {
         enum host_status status = host_checkpoint(&devices, &is_it);
         puts(status == HOST_LOST   ? "no lost"
@@ -173,6 +200,7 @@ int main(int count, char **words)
     if (host_provision(&devices, &store, &instance, entropy) != HOST_DONE ||
         host_open(&host, &devices, &store) != HOST_DONE || host_resume(&host, &is_answered) != HOST_DONE)
         return HOST_MEMORY;
+    cell_writes = 0;
     unsigned long event = count == 4 ? strtoul(words[2], NULL, 10) : 0, number = 0;
     char *line = NULL;
     size_t size = 0;

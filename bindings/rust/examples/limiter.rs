@@ -1,6 +1,8 @@
 //! A limiter over devices in plain memory, with the proved core as a static library: bindings/c/limiter.c in Rust.
 //!
 //!     limiter VARIANT [EVENT STEP] <LINES
+//!
+//! A line with TABs is a batch of requests; `writes` says how often the cell was written for them.
 
 use memoir_core::{Answer, Checkpointed, Devices, Fault, Host, HostFault, Refusal, Store, Variant};
 use std::{
@@ -15,6 +17,7 @@ struct Memory {
     is_on: bool,
     made: u32,
     cut: Option<u32>,
+    writes: u32,
 }
 
 impl Memory {
@@ -46,6 +49,7 @@ impl Devices for Memory {
     }
 
     fn write_cell(&mut self, bytes: &[u8; 104]) -> Result<(), Fault> {
+        self.writes += 1;
         self.step(|it| it.cell = *bytes)
     }
 
@@ -89,6 +93,7 @@ fn made(variant: Variant) -> Result<Host<Memory, Slots>, HostFault<Infallible>> 
         is_on: true,
         made: 0,
         cut: None,
+        writes: 0,
     };
     let mut slots = Slots::default();
     let (key, barrier) = (
@@ -104,20 +109,31 @@ fn made(variant: Variant) -> Result<Host<Memory, Slots>, HostFault<Infallible>> 
     )?;
     let mut host = Host::open(devices, slots)?;
     host.resume()?;
+    host.devices.writes = 0;
     Ok(host)
 }
 
-/// One line: a request, or one of the two words.
+/// One line: a request, several with TABs between them as one batch, or one of the three words.
 fn serve(host: &mut Host<Memory, Slots>, line: &[u8], out: &mut impl Write) -> io::Result<()> {
     match line {
         b"power" => {
             host.devices.power();
             writeln!(out, "power")
         }
+        b"writes" => writeln!(out, "writes {}", host.devices.writes),
         b"checkpoint" => match host.checkpoint() {
             Ok(Checkpointed::Done) => writeln!(out, "checkpointed"),
             Ok(Checkpointed::NoSegment) => writeln!(out, "no segment"),
             Err(refusal) => refused(refusal, out),
+        },
+        _ if line.contains(&b'\t') => match host.ask_batch(line) {
+            Err(HostFault::Refused(Refusal::Device)) => {
+                host.devices.power();
+                host.devices.cut = None;
+                let came = host.ask_batch(line);
+                tell_batch(came, out)
+            }
+            came => tell_batch(came, out),
         },
         _ => match host.ask(line) {
             Err(HostFault::Refused(Refusal::Device)) => {
@@ -147,6 +163,27 @@ fn tell(came: Came, out: &mut impl Write) -> io::Result<()> {
         Err(HostFault::Store(never)) => match never {},
         Err(HostFault::Already) => unreachable!("the cell was blank"),
     }
+}
+
+/// The same of a batch: a line for each request.
+fn tell_batch(came: Came, out: &mut impl Write) -> io::Result<()> {
+    let Ok(answer) = came else {
+        return tell(came, out);
+    };
+    let outputs: Vec<&[u8]> = answer
+        .output
+        .split_inclusive(|byte| *byte == b'\n')
+        .collect();
+    let word = if answer.again { "again" } else { "ok" };
+    for (i, output) in outputs.iter().enumerate() {
+        write!(
+            out,
+            "{word} {} ",
+            answer.position - (outputs.len() - 1 - i) as u64
+        )?;
+        out.write_all(output)?;
+    }
+    Ok(())
 }
 
 fn refused(refusal: Refusal, out: &mut impl Write) -> io::Result<()> {

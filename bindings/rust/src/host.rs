@@ -105,6 +105,17 @@ impl<D: Devices, S: Store> Host<D, S> {
         self.ask_and_keep(request)
     }
 
+    /// Asks for up to 64 requests under one commit, as [`Core::ask_batch`] does. No record is kept of them: after
+    /// [`Refusal::Device`] ask the very same text again, and nothing else before. So it is for a program that keeps the text
+    /// and the snapshot it was asked on itself, or has nothing that outlives it.
+    pub fn ask_batch(&mut self, requests: &[u8]) -> Came<Answer, S> {
+        let answer = self
+            .core
+            .ask_batch(&mut self.devices, &self.snapshot, requests)
+            .map_err(HostFault::Refused)?;
+        self.keep(answer)
+    }
+
     /// Closes the open segment of Opt, so that power may be lost.
     pub fn checkpoint(&mut self) -> Result<Checkpointed, Refusal> {
         self.core.checkpoint(&mut self.devices)
@@ -116,6 +127,10 @@ impl<D: Devices, S: Store> Host<D, S> {
             .core
             .ask(&mut self.devices, &self.snapshot, request)
             .map_err(HostFault::Refused)?;
+        self.keep(answer)
+    }
+
+    fn keep(&mut self, answer: Answer) -> Came<Answer, S> {
         self.position = answer.position;
         self.snapshot.clone_from(&answer.snapshot);
         self.store

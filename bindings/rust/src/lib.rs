@@ -208,19 +208,42 @@ impl Core {
         offer: &[u8],
         request: &[u8],
     ) -> Result<Answer, Refusal> {
-        let mut steps = [NO_STEP; sys::STEPS];
-        let mut reply = NO_REPLY;
-        for made in 0..=sys::STEPS {
-            let said = self.come_to(&steps[..made], offer, request, &mut reply);
-            if said != sys::NEXT || made == sys::STEPS {
-                return match said {
-                    sys::MEMORY if has_changed(&steps[..made]) => Err(Refusal::Device),
-                    _ => done(said).map(|()| self.answer(&reply)),
-                };
+        let reply = by_steps(devices, |steps, reply| {
+            self.come_to(steps, offer, request, reply)
+        })?;
+        Ok(self.answer(&reply))
+    }
+
+    /// Asks for up to 64 requests, the pieces of this text between bytes TAB, under one commit: for one write of the cell in
+    /// Basic. The answer has the last one's position, and a line for each as its output. It is asked again by the very same
+    /// text, on the same snapshot; slots and records are for single requests.
+    pub fn ask_batch<D: Devices>(
+        &mut self,
+        devices: &mut D,
+        offer: &[u8],
+        requests: &[u8],
+    ) -> Result<Answer, Refusal> {
+        let room = self.room.len() + sys::LINES;
+        let mut room = vec![0; room];
+        let instance = self.instance;
+        let reply = by_steps(devices, |steps, reply| {
+            // SAFETY: references, and slices with their lengths; nothing that is written overlaps another.
+            unsafe {
+                sys::memoir_ask_batch(
+                    &instance,
+                    steps.as_ptr(),
+                    steps.len(),
+                    offer.as_ptr(),
+                    offer.len(),
+                    requests.as_ptr(),
+                    requests.len(),
+                    reply,
+                    room.as_mut_ptr(),
+                    room.len(),
+                )
             }
-            steps[made] = make(devices, reply.next);
-        }
-        Err(Refusal::Device)
+        })?;
+        Ok(answer_in(&room, &reply))
     }
 
     /// Closes the open segment of Opt, so that power may be lost.
@@ -267,14 +290,36 @@ impl Core {
     }
 
     fn answer(&self, reply: &sys::Reply) -> Answer {
-        let (output, rest) = self.room.split_at(reply.output_length);
-        Answer {
-            again: reply.again != 0,
-            position: reply.position,
-            output: output.to_vec(),
-            snapshot: rest[..reply.snapshot_length].to_vec(),
+        answer_in(&self.room, reply)
+    }
+}
+
+// What the front of a room has.
+fn answer_in(room: &[u8], reply: &sys::Reply) -> Answer {
+    let (output, rest) = room.split_at(reply.output_length);
+    Answer {
+        again: reply.again != 0,
+        position: reply.position,
+        output: output.to_vec(),
+        snapshot: rest[..reply.snapshot_length].to_vec(),
+    }
+}
+
+// Makes the steps of a call as it tells them, until it is over.
+fn by_steps<D: Devices>(
+    devices: &mut D,
+    mut call: impl FnMut(&[sys::Step], &mut sys::Reply) -> u32,
+) -> Result<sys::Reply, Refusal> {
+    let mut steps = [NO_STEP; sys::STEPS];
+    let mut reply = NO_REPLY;
+    for made in 0..=sys::STEPS {
+        match call(&steps[..made], &mut reply) {
+            sys::NEXT if made < sys::STEPS => steps[made] = make(devices, reply.next),
+            sys::MEMORY if has_changed(&steps[..made]) => return Err(Refusal::Device),
+            said => return done(said).map(|()| reply),
         }
     }
+    Err(Refusal::Device)
 }
 
 // Makes the step, and notes what the device answered.

@@ -6,6 +6,7 @@ pub const REGISTER: usize = 32;
 pub const LONGEST_REQUEST: usize = 4096;
 pub const RECORD: usize = 48 + LONGEST_REQUEST;
 pub const STEPS: usize = 5;
+pub const LINES: usize = 63 * (LONGEST_REQUEST + 1) + 1;
 
 pub const DONE: u32 = 0;
 pub const MEMORY: u32 = 1;
