@@ -1,5 +1,6 @@
 mod Batching
 mod Lines
+mod Moves
 mod Rooming
 mod Shortening
 mod Stepping

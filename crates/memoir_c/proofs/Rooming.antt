@@ -1,6 +1,6 @@
 -- The room that is enough for what is written.
 use Rattle.std.proofs.Common.{◌≡◌, ◌∙◌, ℕ, ◌+◌, ◌<◌, ◌≤◌, List, [], length, refl, sym, subst, inl, inr, arith, length-append}
-use Rattle.std.specs.Prelude.{Option, None, Some, Result, Ok, Err}
+use Rattle.std.specs.Prelude.{Some, Result, Ok, Err}
 use Rattle.std.proofs.lemmas.List.Elements.{All-head}
 use Rattle.mm_bytes.specs.Limits.{limit_of, longest_request}
 use Rattle.mm_digest.specs.declared.variant.Variant.{Variant}
@@ -14,14 +14,13 @@ use Rattle.mm_model.specs.Below.{length-sha256}
 use Rattle.mm_model.specs.Codes.{code_of}
 use Rattle.mm_model.specs.History.{first_history}
 use Rattle.mm_model.specs.Instance as model
-use Rattle.mm_model.specs.Places.{content_of_issue}
 use Rattle.mm_model.specs.declared.answer.Answer.{Answer}
 use Rattle.mm_model.specs.declared.refusal.Refusal.{Refusal}
 use Rattle.mm_model.specs.declared.refusal.Refusal.TheVariants as refusal
 use Rattle.mm_call.specs.OfferLaws.{basic_content, opt_content}
 use Rattle.mm_call.specs.Standing.{instance_by}
 use Rattle.mm_store.proofs.Above.{length-pending_front}
-use Rattle.mm_store.specs.PendingRecord.{PendingRecord, pending_front, pending_spelling}
+use Rattle.mm_store.specs.PendingRecord.{PendingRecord, pending_spelling}
 use Rattle.mm_told.proofs.Above.{sealed_most}
 use Rattle.mm_told.specs.declared.outcome.StepsOutcome.{StepsOutcome}
 use Rattle.mm_told.specs.declared.outcome.StepsOutcome.TheVariants as outcome
@@ -60,6 +59,12 @@ only_room said.Done e = absurd (omega (arith, e))
 only_room said.Next e = absurd (omega (arith, e))
 only_room said.Differs e = absurd (omega (arith, e))
 only_room said.NoSegment e = absurd (omega (arith, e))
+only_room said.Already e = absurd (omega (arith, e))
+only_room said.Open e = absurd (omega (arith, e))
+only_room said.Gone e = absurd (omega (arith, e))
+only_room said.Nonce e = absurd (omega (arith, e))
+only_room said.Barrier e = absurd (omega (arith, e))
+only_room said.Again e = absurd (omega (arith, e))
 only_room said.NoVariant e = absurd (omega (arith, e))
 only_room said.NoModule e = absurd (omega (arith, e))
 only_room said.TooMany e = absurd (omega (arith, e))

@@ -8,3 +8,4 @@ pub mod Records
 pub mod FirstInstance
 pub mod CellInstance
 pub mod BatchCalls
+pub mod MoveCalls

@@ -2,6 +2,8 @@
 use Rattle.std.specs.Prelude.{ℕ}
 use Rattle.mm_model.specs.Codes.{code_of}
 use Rattle.mm_model.specs.declared.refusal.Refusal.TheVariants as refusal
+use Rattle.mm_move.specs.declared.refusal.MoveRefusal.{MoveRefusal}
+use Rattle.mm_move.specs.declared.refusal.MoveRefusal.TheVariants as move
 use Rattle.mm_opt.specs.declared.segment.CheckpointRefusal.{CheckpointRefusal}
 use Rattle.mm_opt.specs.declared.segment.CheckpointRefusal.TheVariants as closing
 use Rattle.memoir_c.specs.declared.said.ReturnStatus.{ReturnStatus}
@@ -13,6 +15,12 @@ number_of (said.Refused why) = code_of why
 number_of said.Next = 16
 number_of said.Differs = 17
 number_of said.NoSegment = 18
+number_of said.Already = 19
+number_of said.Open = 20
+number_of said.Gone = 21
+number_of said.Nonce = 22
+number_of said.Barrier = 23
+number_of said.Again = 24
 number_of said.NoVariant = 32
 number_of said.NoModule = 33
 number_of said.TooMany = 34
@@ -28,3 +36,12 @@ closing_status closing.Blank = said.Refused refusal.Blank
 closing_status closing.Cell = said.Refused refusal.Cell
 closing_status closing.Kind = said.Refused refusal.Kind
 closing_status closing.Lost = said.Refused refusal.Lost
+
+-- and a refused move
+abbrev pub move_status : MoveRefusal → ReturnStatus
+move_status (move.Core why) = said.Refused why
+move_status move.Already = said.Already
+move_status move.Open = said.Open
+move_status move.Gone = said.Gone
+move_status move.Nonce = said.Nonce
+move_status move.Barrier = said.Barrier

@@ -1,5 +1,5 @@
 -- What the functions answer that make no step: of modules, and of receipts.
-use Rattle.std.specs.Prelude.{ℕ, ◌+◌, ◌==◌, List, length, Option, None, Some, Result, Ok, Err, nat_lt, if◌then◌else◌}
+use Rattle.std.specs.Prelude.{ℕ, ◌+◌, ◌==◌, List, length, Result, Ok, Err, nat_lt, if◌then◌else◌}
 use Rattle.std.specs.Option.{option_map_or}
 use Rattle.mm_bytes.specs.Limits.{limit_of, longest_request}
 use Rattle.mm_modules.specs.Modules.{meaning_of, module_of_name, module_of_id}

@@ -1,5 +1,5 @@
 -- What the functions do that write and read the record of a pending request.
-use Rattle.std.specs.Prelude.{◌≡◌, ℕ, ◌<◌, ◌≤◌, ◌++◌, List, drop, length, Option, None, Some, ◌⊎◌}
+use Rattle.std.specs.Prelude.{◌≡◌, ℕ, ◌<◌, ◌++◌, List, drop, length, None, Some, ◌⊎◌}
 use Rattle.mm_bytes.specs.Limits.{last_position}
 use Rattle.mm_module.specs.Meaning.{IsLine}
 use Rattle.mm_model.specs.declared.refusal.Refusal.TheVariants as refusal

@@ -78,8 +78,8 @@ fn record(alloc: Global, position: u64, request: &[u8]) -> Result<Bytes, ReturnS
     }
 }
 
-// Writes these bytes and their length, where there is room.
-fn put(bytes: &[u8], length: &mut usize, room: &mut [u8]) -> ReturnStatus
+/// Writes these bytes and their length, where there is room.
+pub fn put(bytes: &[u8], length: &mut usize, room: &mut [u8]) -> ReturnStatus
     ensures puts { PutsInFront bytes.now (record {
       before = room.old;
       after = room.new;

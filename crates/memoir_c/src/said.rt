@@ -1,6 +1,7 @@
 //! What a call says to C, as a number.
 
 use mm_model::Refusal;
+use mm_move::MoveRefusal;
 use mm_opt::CheckpointRefusal;
 
 /// What a call says.
@@ -16,6 +17,18 @@ pub enum ReturnStatus {
     Differs,
     /// No segment was open.
     NoSegment,
+    /// The platform has a module, or waits for another ticket.
+    Already,
+    /// A segment is open.
+    Open,
+    /// The module has left the platform.
+    Gone,
+    /// The platform waits for a ticket with another nonce.
+    Nonce,
+    /// The cell has another barrier than the link.
+    Barrier,
+    /// The platform was invited before, just so.
+    Again,
     /// No variant has this number.
     NoVariant,
     /// No module has this id.
@@ -34,7 +47,7 @@ pub enum ReturnStatus {
 
 impl ReturnStatus {
     ghost use Rattle.std.specs.Prelude.{◌≡◌, ◌↔◌};
-    ghost use Rattle.memoir_c.specs.Numbers.{number_of, closing_status};
+    ghost use Rattle.memoir_c.specs.Numbers.{number_of, closing_status, move_status};
 
     /// Its number, 0 for Done alone, and 16 for Next alone.
     pub fn code(self) -> u32
@@ -48,6 +61,12 @@ impl ReturnStatus {
             ReturnStatus::Next => 16,
             ReturnStatus::Differs => 17,
             ReturnStatus::NoSegment => 18,
+            ReturnStatus::Already => 19,
+            ReturnStatus::Open => 20,
+            ReturnStatus::Gone => 21,
+            ReturnStatus::Nonce => 22,
+            ReturnStatus::Barrier => 23,
+            ReturnStatus::Again => 24,
             ReturnStatus::NoVariant => 32,
             ReturnStatus::NoModule => 33,
             ReturnStatus::TooMany => 34,
@@ -68,6 +87,20 @@ impl ReturnStatus {
             CheckpointRefusal::Cell => ReturnStatus::Refused(Refusal::Cell),
             CheckpointRefusal::Kind => ReturnStatus::Refused(Refusal::Kind),
             CheckpointRefusal::Lost => ReturnStatus::Refused(Refusal::Lost),
+        }
+    }
+
+    /// Of a refused move, as of a call that is refused for the same.
+    pub fn of_move(refusal: MoveRefusal) -> ReturnStatus
+        ensures { result ≡ move_status refusal }
+    {
+        match refusal {
+            MoveRefusal::Core(refusal) => ReturnStatus::Refused(refusal),
+            MoveRefusal::Already => ReturnStatus::Already,
+            MoveRefusal::Open => ReturnStatus::Open,
+            MoveRefusal::Gone => ReturnStatus::Gone,
+            MoveRefusal::Nonce => ReturnStatus::Nonce,
+            MoveRefusal::Barrier => ReturnStatus::Barrier,
         }
     }
 }

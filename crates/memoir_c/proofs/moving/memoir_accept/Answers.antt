@@ -1,0 +1,14 @@
+use Rattle.std.proofs.Common.{sym, ◌∙◌}
+use Rattle.memoir_c.proofs.Moves.{accepted_enough, accepted_few}
+use Rattle.memoir_c.proofs.Rooming.{only_room}
+use Rattle.memoir_c.proofs.moving.memoir_accept.Goals as goal
+
+pub returns-clause-few : goal.returns-clause-few
+returns-clause-few c e =
+    accepted_few c.args.instance.now c.args.steps.now c.args.link.now c.args.ticket.now c.accepted-came.result _
+    c.accepted-came.ensures c.tell_moved.ensures.tells (c.code.ensures.next.0 e)
+
+pub returns-clause-enough : goal.returns-clause-enough
+returns-clause-enough c h e =
+    accepted_enough c.args.instance.now c.args.steps.now c.args.link.now c.args.ticket.now c.accepted-came.result _
+    c.accepted-came.ensures c.tell_moved.ensures.tells h (only_room _ (sym c.code.ensures.number ∙ e))
