@@ -6,6 +6,7 @@ pub use Rattle.mm_recovery.proofs.CellWriting.{AnsweredWrites, both_writes, coun
 pub use Rattle.mm_recovery.proofs.Exits.{answered_writes, by_refusal, CameWrites, new_most, next_came, next_told, resumes_came}
 pub use Rattle.mm_recovery.proofs.Exits.{resumes_told, Told}
 pub use Rattle.mm_recovery.proofs.Away.{is_checkpoint}
+pub use Rattle.mm_recovery.proofs.BatchMeeting.{BatchMet, basic_batch_met, opt_batch_met, opt_batch_met_idle}
 pub use Rattle.mm_recovery.proofs.OneCall.{is_call}
 pub use Rattle.mm_recovery.proofs.Slots.{fits_on, holds_issued, issued_in_opt}
 pub use Rattle.mm_recovery.proofs.Meeting.{basic_met, IsGrownBy, IsSame, Met, not_lost, opt_grown, opt_met, opt_met_idle, was_powered}

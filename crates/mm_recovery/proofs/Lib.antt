@@ -4,6 +4,7 @@ mod Askable
 mod Refusing
 mod Slots
 mod Meeting
+mod BatchMeeting
 mod Recovering
 mod SettingUp
 mod Exits
