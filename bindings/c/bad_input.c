@@ -49,6 +49,75 @@ static int keeps(uint32_t wanted, size_t count, const uint8_t *offer, size_t len
                               memory_length, &reply, room, 91) == wanted;
 }
 
+/* Moves of the instance that has this cell and this snapshot: each with what is of no use, and with all that is. */
+static void move_all(const struct memoir_instance *instance, const uint8_t cell[MEMOIR_CELL], const uint8_t *snapshot)
+{
+    static const struct memoir_instance other = {3, 1}, none = {MEMOIR_OPT, 99};
+    struct memoir_keys link = {{3}, {4}}, no_link = {{7}, {4}};
+    uint8_t nonce[MEMOIR_KEY] = {5}, another[MEMOIR_KEY] = {8}, key[MEMOIR_KEY] = {6}, ticket[200], issued[90];
+    struct memoir_step made[MEMOIR_STEPS + 1] = {{0}}, next = {9, 9, {9}}, same;
+    struct memoir_moved moved = {7, 7, {9, 9, {9}}};
+    memcpy(&same, &next, sizeof next);
+
+    /* An invitation. */
+    EXPECT(memoir_invite(&other, made, 0, &link, nonce, key, &next) == MEMOIR_NO_VARIANT);
+    EXPECT(memoir_invite(&none, made, 0, &link, nonce, key, &next) == MEMOIR_NO_MODULE);
+    EXPECT(memoir_invite(instance, made, MEMOIR_STEPS + 1, &link, nonce, key, &next) == MEMOIR_TOO_MANY);
+    EXPECT(memoir_invite(instance, made, 1, &link, nonce, key, &next) == MEMOIR_NO_STEP);
+    EXPECT(memcmp(&next, &same, sizeof next) == 0);
+    EXPECT(memoir_invite(instance, NULL, 0, &link, nonce, key, &made[0]) == MEMOIR_NEXT && made[0].kind == MEMOIR_READ_CELL);
+    EXPECT(memoir_invite(instance, made, 1, &link, nonce, key, &made[1]) == MEMOIR_NEXT && made[1].kind == MEMOIR_WRITE_CELL);
+    EXPECT(memoir_invite(instance, made, 2, &link, nonce, key, &next) == MEMOIR_DONE);
+    EXPECT(memoir_invite(instance, made, 2, &link, another, key, &next) == MEMOIR_DIFFERS);
+    made[1].answer = MEMOIR_OFF;
+    EXPECT(memoir_invite(instance, made, 2, &link, nonce, key, &next) == MEMOIR_DEVICE);
+    struct memoir_step awaits = made[0], live = made[0], left = made[0];
+    memcpy(awaits.bytes, made[1].bytes, MEMOIR_CELL);
+    memcpy(live.bytes, cell, MEMOIR_CELL);
+    EXPECT(memoir_invite(instance, &awaits, 1, &link, nonce, key, &next) == MEMOIR_AGAIN);
+    EXPECT(memoir_invite(instance, &awaits, 1, &link, another, key, &next) == MEMOIR_ALREADY);
+    EXPECT(memoir_invite(instance, &live, 1, &link, nonce, key, &next) == MEMOIR_ALREADY);
+    EXPECT(memcmp(&next, &same, sizeof next) == 0);
+
+    /* A retirement. */
+    EXPECT(memoir_retire(instance, made, 1, &link, nonce, snapshot, 90, &moved, room, 122) == MEMOIR_BLANK);
+    EXPECT(memoir_retire(instance, &awaits, 1, &link, nonce, snapshot, 90, &moved, room, 122) == MEMOIR_OTHER_CELL);
+    EXPECT(memoir_retire(instance, &live, 1, &link, nonce, snapshot, 89, &moved, room, 122) == MEMOIR_FORM);
+    EXPECT(memoir_retire(instance, &live, 1, &link, nonce, NULL, 0, &moved, NULL, 0) == MEMOIR_FORM);
+    EXPECT(moved.length == 7 && moved.position == 7 && memcmp(&moved.next, &same, sizeof same) == 0);
+    EXPECT(memoir_retire(instance, &live, 1, &link, nonce, snapshot, 90, &moved, NULL, 0) == MEMOIR_NEXT);
+    EXPECT(moved.next.kind == MEMOIR_WRITE_CELL && moved.length == 7 && moved.position == 7);
+    struct memoir_step leaving[] = {live, moved.next};
+    EXPECT(memoir_retire(instance, leaving, 2, &link, nonce, snapshot, 90, &moved, ticket, 121) == MEMOIR_NO_ROOM);
+    EXPECT(memoir_retire(instance, leaving, 2, &link, nonce, snapshot, 90, &moved, ticket, 122) == MEMOIR_DONE);
+    EXPECT(moved.length == 122 && moved.position == 0);
+    memcpy(left.bytes, leaving[1].bytes, MEMOIR_CELL);
+    EXPECT(memoir_retire(instance, &left, 1, &link, nonce, snapshot, 90, &moved, room, 122) == MEMOIR_DONE);
+    EXPECT(memcmp(room, ticket, 122) == 0);
+    memset(room, 0x5a, sizeof room);
+    EXPECT(memoir_retire(instance, &left, 1, &link, another, snapshot, 90, &moved, room, 122) == MEMOIR_GONE);
+
+    /* An acceptance. */
+    moved.length = moved.position = 7;
+    EXPECT(memoir_accept(instance, made, 1, &link, ticket, 122, &moved, room, 90) == MEMOIR_BLANK);
+    EXPECT(memoir_accept(instance, &left, 1, &link, ticket, 122, &moved, room, 90) == MEMOIR_GONE);
+    EXPECT(memoir_accept(instance, &awaits, 1, &link, ticket, 121, &moved, room, 90) == MEMOIR_FORM);
+    EXPECT(memoir_accept(instance, &awaits, 1, &no_link, ticket, 122, &moved, room, 90) == MEMOIR_TAG);
+    awaits.bytes[8] ^= 1;
+    EXPECT(memoir_accept(instance, &awaits, 1, &link, ticket, 122, &moved, room, 90) == MEMOIR_NONCE);
+    awaits.bytes[8] ^= 1;
+    EXPECT(memoir_accept(instance, &awaits, 1, &link, ticket, 122, &moved, NULL, 0) == MEMOIR_NEXT);
+    struct memoir_step coming[] = {awaits, moved.next};
+    EXPECT(memoir_accept(instance, coming, 2, &link, ticket, 122, &moved, room, 89) == MEMOIR_NO_ROOM);
+    EXPECT(moved.length == 7 && moved.position == 7 && memcmp(room, before, sizeof room) == 0);
+    EXPECT(memoir_accept(instance, coming, 2, &link, ticket, 122, &moved, issued, 90) == MEMOIR_DONE);
+    EXPECT(moved.length == 90 && moved.position == 0);
+    memcpy(awaits.bytes, coming[1].bytes, MEMOIR_CELL);
+    EXPECT(memoir_accept(instance, &awaits, 1, &link, ticket, 122, &moved, room, 90) == MEMOIR_DONE);
+    EXPECT(memcmp(room, issued, 90) == 0);
+    memset(room, 0x5a, sizeof room);
+}
+
 int main(void)
 {
     struct memoir_instance instance = {MEMOIR_BASIC, 1}, other = {3, 1}, none = {MEMOIR_OPT, 99};
@@ -198,6 +267,8 @@ int main(void)
     EXPECT(memoir_checkpoint(steps, 1, &unsaid.next) == MEMOIR_KIND);
     EXPECT(memoir_checkpoint(steps, 2, &unsaid.next) == MEMOIR_DIFFERS);
     EXPECT(memoir_checkpoint(steps, MEMOIR_STEPS + 1, &unsaid.next) == MEMOIR_TOO_MANY);
+
+    move_all(&instance, first.cell, snapshot);
 
     /* Records, and receipts. */
     EXPECT(memoir_pending(0, text, 5, &length, room, sizeof room) == MEMOIR_NO_POSITION);

@@ -3,6 +3,12 @@
  * hardware, it goes into the five functions.
  *
  *     files init VARIANT MODULE | run | checkpoint | power
+ *     files invite VARIANT MODULE | retire VARIANT MODULE | accept VARIANT MODULE
+ *
+ * Two folders have the file `link`, 64 secret random bytes. In the new one `invite` makes `invitation` from `entropy`: 32
+ * bytes, to be copied to the old one's `nonce`, and 32 secret ones. There `retire` makes `ticket.out`, to be copied to the
+ * new one's `ticket`, which `accept` takes. Each may be said again after any stop. With a ticket there, `run` accepts it
+ * again until its first record is kept.
  *
  * With -DPLAYED it stops where PLAYED says (played.h). */
 #define _GNU_SOURCE
@@ -207,12 +213,19 @@ static enum host_status take_entropy(uint8_t entropy[64])
     return got < 0 ? HOST_READ : length < 64 ? HOST_SHORT : HOST_DONE;
 }
 
+/* The instance that two words name. */
+static bool named(const char *variant, const char *module, struct memoir_instance *instance)
+{
+    instance->variant = strcmp(variant, "opt") == 0 ? MEMOIR_OPT : MEMOIR_BASIC;
+    instance->module = memoir_module_id((const uint8_t *)module, strlen(module));
+    return (instance->variant == MEMOIR_OPT || strcmp(variant, "basic") == 0) && instance->module != 0;
+}
+
 static int init(const char *variant, const char *module)
 {
     uint8_t entropy[64];
-    struct memoir_instance instance = {strcmp(variant, "opt") == 0 ? MEMOIR_OPT : MEMOIR_BASIC,
-                                       memoir_module_id((const uint8_t *)module, strlen(module))};
-    if ((instance.variant == MEMOIR_BASIC && strcmp(variant, "basic") != 0) || instance.module == 0)
+    struct memoir_instance instance;
+    if (!named(variant, module, &instance))
         return host_stopped(HOST_USAGE, 0);
     may_make = true;
     enum host_status status = host_is_blank(&devices);
@@ -233,6 +246,155 @@ static int power(void)
     return host_write(STDOUT_FILENO, "power\n", 6) ? HOST_DONE : HOST_WRITE;
 }
 
+/* Moves. */
+
+/* The longest ticket, and a byte. */
+static uint8_t ticket[1100000];
+static size_t ticket_length;
+
+/* Reads a file of at most so many bytes. */
+static bool get_file(const char *name, uint8_t *bytes, size_t most, size_t *length)
+{
+    int file = open(name, O_RDONLY | O_NONBLOCK | O_CLOEXEC);
+    ssize_t got = file < 0 ? -1 : 1;
+    for (*length = 0; got > 0 && *length < most; *length += got > 0 ? (size_t)got : 0)
+        got = read(file, bytes + *length, most - *length);
+    if (file >= 0)
+        close(file);
+    return got >= 0;
+}
+
+/* Writes a file as a whole: it takes its name once it is on the disk. */
+static bool put_file(const char *name, const char *as, const uint8_t *bytes, size_t length)
+{
+    int file = open(as, O_WRONLY | O_CREAT | O_TRUNC | O_CLOEXEC, 0600);
+    bool is_done = file >= 0 && put_at(file, bytes, length, 0);
+    if (file >= 0)
+        close(file);
+    int here = is_done ? open(".", O_RDONLY | O_DIRECTORY | O_CLOEXEC) : -1;
+    is_done = here >= 0 && rename(as, name) == 0 && fsync(here) == 0;
+    if (here >= 0)
+        close(here);
+    if (!is_done)
+        host_says(name);
+    return is_done;
+}
+
+static enum host_status get_link(struct memoir_keys *link)
+{
+    uint8_t bytes[64];
+    size_t length;
+    if (!get_file("link", bytes, sizeof bytes, &length))
+        return HOST_READ;
+    memcpy(link->key, bytes, MEMOIR_KEY);
+    memcpy(link->barrier, bytes + MEMOIR_KEY, MEMOIR_KEY);
+    return length < 64 ? HOST_SHORT : HOST_DONE;
+}
+
+/* Tells a refused move as `memoir transfer` does, and stops. */
+static int moved(enum host_status status, uint32_t said, const char *told)
+{
+    static const char *const causes[] = {"form", "kind", "state", "tag", "stale"};
+    static const char *const moves[] = {"open", "gone", "nonce", "barrier"};
+    char line[32];
+    int length = status == HOST_DONE ? sprintf(line, "%s\n", told)
+                 : status != HOST_REFUSED ? 0
+                 : said >= MEMOIR_OPEN ? sprintf(line, "no %s\n", moves[said - MEMOIR_OPEN])
+                                       : sprintf(line, "no %s\n", causes[said - MEMOIR_FORM]);
+    if (!host_write(STDOUT_FILENO, line, (size_t)length))
+        return HOST_WRITE;
+    return status == HOST_DONE ? HOST_DONE : host_stopped(status, 0);
+}
+
+/* Nonce and key are kept before they are used, and gone once the ticket came. */
+static int invite(const struct memoir_instance *instance)
+{
+    uint8_t entropy[64];
+    size_t length = 0;
+    struct memoir_keys link;
+    uint32_t said = MEMOIR_NEXT;
+    may_make = true;
+    enum host_status status = get_link(&link);
+    if (status == HOST_DONE && (!get_file("invitation", entropy, sizeof entropy, &length) || length < 64)) {
+        status = take_entropy(entropy);
+        if (status == HOST_DONE && !put_file("invitation", "invitation.new", entropy, sizeof entropy))
+            status = HOST_STORE;
+    }
+    if (status == HOST_DONE)
+        status = host_invite(&devices, instance, &link, entropy, &said);
+    return moved(status, said, "invited");
+}
+
+static int retire(const struct memoir_instance *instance)
+{
+    uint8_t nonce[MEMOIR_KEY];
+    size_t length;
+    struct memoir_keys link;
+    uint32_t said = MEMOIR_NEXT;
+    enum host_status status = get_link(&link);
+    if (status == HOST_DONE)
+        status = !get_file("nonce", nonce, sizeof nonce, &length) ? HOST_READ : length < MEMOIR_KEY ? HOST_SHORT : HOST_DONE;
+    if (status == HOST_DONE)
+        status = host_retire(&devices, host_slots_here(), instance, &link, nonce, ticket, &ticket_length, &said);
+    if (status == HOST_DONE && !put_file("ticket.out", "ticket.new", ticket, ticket_length))
+        status = HOST_STORE;
+    /* The one by which the module came here is spent. */
+    if (status == HOST_DONE && unlink("ticket") != 0 && errno != ENOENT)
+        status = HOST_STORE;
+    return moved(status, said, "retired");
+}
+
+/* The ticket of this folder, accepted. HOST_READ where there is none. */
+static enum host_status arrive(struct host *host, const struct memoir_instance *instance)
+{
+    struct memoir_keys link;
+    memset(host, 0, sizeof *host);
+    enum host_status status = get_link(&link);
+    if (status == HOST_DONE && !get_file("ticket", ticket, sizeof ticket, &ticket_length))
+        status = HOST_READ;
+    if (status == HOST_DONE)
+        status = host_accept(host, &devices, host_slots_here(), instance, &link, ticket, ticket_length);
+    if (status == HOST_DONE && unlink("invitation") != 0 && errno != ENOENT)
+        status = HOST_STORE;
+    return status;
+}
+
+static int accept_ticket(const struct memoir_instance *instance)
+{
+    struct host host;
+    char told[32];
+    enum host_status status = arrive(&host, instance);
+    sprintf(told, "accepted %llu", (unsigned long long)host.position);
+    uint32_t said = host.said;
+    host_close(&host);
+    return moved(status, said, told);
+}
+
+/* A module that came by a ticket, as long as nothing was asked here. */
+static int run_accepted(void)
+{
+    struct host host;
+    unsigned long line = 1;
+    struct memoir_instance instance = {ticket[4], ticket[5]};
+    enum host_status status = arrive(&host, &instance);
+    if (status == HOST_ALREADY) {
+        host_close(&host);
+        return host_run(&devices, host_slots_here());
+    }
+    if (status == HOST_DONE)
+        status = host_serve(&host, STDIN_FILENO, STDOUT_FILENO, &line);
+    host_close(&host);
+    return host_stopped(status, line);
+}
+
+static int move_by(const char *word, const char *variant, const char *module)
+{
+    struct memoir_instance instance;
+    if (!named(variant, module, &instance))
+        return host_stopped(HOST_USAGE, 0);
+    return strcmp(word, "invite") == 0 ? invite(&instance) : strcmp(word, "retire") == 0 ? retire(&instance) : accept_ticket(&instance);
+}
+
 int main(int count, char **words)
 {
     if (!host_take_descriptors())
@@ -243,6 +405,10 @@ int main(int count, char **words)
 #endif
     if (count == 4 && strcmp(words[1], "init") == 0)
         return init(words[2], words[3]);
+    if (count == 4 && (strcmp(words[1], "invite") == 0 || strcmp(words[1], "retire") == 0 || strcmp(words[1], "accept") == 0))
+        return move_by(words[1], words[2], words[3]);
+    if (count == 2 && strcmp(words[1], "run") == 0 && get_file("ticket", ticket, sizeof ticket, &ticket_length) && ticket_length > 5)
+        return run_accepted();
     if (count == 2 && strcmp(words[1], "run") == 0)
         return host_run(&devices, host_slots_here());
     if (count == 2 && strcmp(words[1], "checkpoint") == 0)

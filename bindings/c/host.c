@@ -371,7 +371,7 @@ enum host_status host_resume(struct host *host, bool *is_answered)
     *is_answered = false;
     if (!later_record(host->store, host->snapshot, &at, request, &length))
         return HOST_STORE;
-    host->position = 0;
+    host->position = host->accepted;
     if (!host->store->read(host->store->self, at == 0 ? 0 : (at - 1) % 2, host->snapshot, &host->snapshot_length))
         return HOST_STORE;
     if (at == 0)
@@ -479,6 +479,116 @@ void host_close(struct host *host)
     free(host->room);
     free(host->memory);
     free(host->snapshot);
+}
+
+/* Moves. */
+
+static enum host_status status_of_move(uint32_t said)
+{
+    switch (said) {
+    case MEMOIR_AGAIN: return HOST_DONE;
+    case MEMOIR_ALREADY: return HOST_ALREADY;
+    case MEMOIR_OPEN:
+    case MEMOIR_GONE:
+    case MEMOIR_NONCE:
+    case MEMOIR_BARRIER: return HOST_REFUSED;
+    default: return status_of(said);
+    }
+}
+
+enum host_status host_invite(const struct host_devices *devices, const struct memoir_instance *instance,
+                             const struct memoir_keys *link, const uint8_t entropy[64], uint32_t *said)
+{
+    struct memoir_step steps[MEMOIR_STEPS], next;
+    *said = MEMOIR_NEXT;
+    for (size_t made = 0; *said == MEMOIR_NEXT && made < MEMOIR_STEPS; made++) {
+        *said = memoir_invite(instance, steps, made, link, entropy, entropy + MEMOIR_KEY, &next);
+        if (*said == MEMOIR_NEXT) {
+            steps[made] = next;
+            make(devices, &steps[made]);
+        }
+    }
+    return status_of_move(*said);
+}
+
+enum host_status host_retire(const struct host_devices *devices, const struct host_store *store,
+                             const struct memoir_instance *instance, const struct memoir_keys *link,
+                             const uint8_t nonce[MEMOIR_KEY], uint8_t *ticket, size_t *length, uint32_t *said)
+{
+    struct memoir_step steps[MEMOIR_STEPS];
+    struct memoir_moved moved = {0};
+    uint8_t request[MEMOIR_LONGEST_REQUEST], *offer = malloc(HOST_LONGEST_SLOT);
+    uint64_t at;
+    size_t size;
+    *said = MEMOIR_NEXT;
+    bool is_read = offer && later_record(store, offer, &at, request, &size) && store->read(store->self, at % 2, offer, &size);
+    for (size_t made = 0; is_read && *said == MEMOIR_NEXT && made < MEMOIR_STEPS; made++) {
+        *said = memoir_retire(instance, steps, made, link, nonce, offer, size, &moved, ticket, memoir_room(instance->module));
+        if (*said == MEMOIR_NEXT) {
+            steps[made] = moved.next;
+            make(devices, &steps[made]);
+        }
+    }
+    *length = moved.length;
+    enum host_status status = is_read ? status_of_move(*said) : offer ? HOST_STORE : HOST_MEMORY;
+    free(offer);
+    return status;
+}
+
+/* The steps of an acceptance. Before the cell is written old records are emptied; where they aren't old, the module is
+ * here. */
+static enum host_status accept_by_steps(struct host *host, const struct memoir_keys *link, const uint8_t *ticket,
+                                        size_t length, bool has_record, struct memoir_moved *moved)
+{
+    struct memoir_step steps[MEMOIR_STEPS];
+    const struct host_store *store = host->store;
+    host->said = MEMOIR_NEXT;
+    for (size_t made = 0; host->said == MEMOIR_NEXT && made < MEMOIR_STEPS; made++) {
+        host->said = memoir_accept(&host->instance, steps, made, link, ticket, length, moved, host->room, host->room_length);
+        if (host->said != MEMOIR_NEXT)
+            return has_record && (host->said == MEMOIR_DONE || host->said == MEMOIR_STALE) ? HOST_ALREADY
+                                                                                       : status_of_move(host->said);
+        if (moved->next.kind == MEMOIR_WRITE_CELL) {
+            if (!store->write(store->self, 2, NULL, 0) || !store->write(store->self, 3, NULL, 0))
+                return HOST_STORE;
+            has_record = false;
+        }
+        steps[made] = moved->next;
+        make(host->devices, &steps[made]);
+    }
+    return HOST_PLATFORM;
+}
+
+enum host_status host_accept(struct host *host, const struct host_devices *devices, const struct host_store *store,
+                             const struct memoir_instance *instance, const struct memoir_keys *link,
+                             const uint8_t *ticket, size_t length)
+{
+    uint8_t request[MEMOIR_LONGEST_REQUEST];
+    struct memoir_moved moved = {0};
+    uint64_t at;
+    size_t size;
+    memset(host, 0, sizeof *host);
+    host->devices = devices;
+    host->store = store;
+    host->instance = *instance;
+    memoir_forget(&host->kept);
+    if (memoir_room(instance->module) == 0)
+        return HOST_USAGE;
+    enum host_status status = prepare(host);
+    if (status == HOST_DONE && !later_record(store, host->snapshot, &at, request, &size))
+        status = HOST_STORE;
+    if (status == HOST_DONE)
+        status = accept_by_steps(host, link, ticket, length, at != 0, &moved);
+    if (status != HOST_DONE)
+        return status;
+    host->position = host->accepted = moved.position;
+    host->snapshot_length = moved.length;
+    memcpy(host->snapshot, host->room, moved.length);
+    /* The next record asks on the slot of this position, and a start without one on slot 0. */
+    return store->write(store->self, moved.position % 2, host->snapshot, moved.length) &&
+                   (moved.position % 2 == 0 || store->write(store->self, 0, host->snapshot, moved.length))
+               ? HOST_DONE
+               : HOST_STORE;
 }
 
 /* Lines. */

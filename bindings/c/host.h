@@ -60,6 +60,8 @@ struct host {
     uint64_t position;
     uint8_t *snapshot;
     size_t snapshot_length;
+    /* The position at which the module came here by host_accept, 0 where it was made here. */
+    uint64_t accepted;
     /* What the last call said, where it is over; its reply, and the output in front of the room. */
     uint32_t said;
     struct memoir_reply reply;
@@ -102,6 +104,27 @@ enum host_status host_ask_batch(struct host *host, const uint8_t *requests, size
 
 /* Closes the open segment of Opt; `is_closed` says whether one was open. */
 enum host_status host_checkpoint(const struct host_devices *devices, bool *is_closed);
+
+/* MOVES, as memoir.h has them, over the slots of two platforms. `said` is what the move said. After HOST_PLATFORM,
+ * HOST_STORE or a stop make the same move again.
+ *
+ * host_invite, where the module is to go: from 64 secret random bytes, the nonce and the key, which are kept until the
+ * ticket is accepted. */
+enum host_status host_invite(const struct host_devices *devices, const struct memoir_instance *instance,
+                             const struct memoir_keys *link, const uint8_t entropy[64], uint32_t *said);
+
+/* Where the module is, with the newest snapshot of the slots: behind a host_resume, so that nothing waits, and in Opt
+ * behind a checkpoint. The ticket has room for memoir_room bytes. The slots stay as they are. */
+enum host_status host_retire(const struct host_devices *devices, const struct host_store *store,
+                             const struct memoir_instance *instance, const struct memoir_keys *link,
+                             const uint8_t nonce[MEMOIR_KEY], uint8_t *ticket, size_t *length, uint32_t *said);
+
+/* Where it is awaited: it opens the instance, in place of host_open, and its snapshot goes into the slots. Old records are
+ * emptied before the cell is written. So does a start whose slots have no record yet; where they have one this answers
+ * HOST_ALREADY, and host_open and host_resume go on. Close the host, whatever it answers. */
+enum host_status host_accept(struct host *host, const struct host_devices *devices, const struct host_store *store,
+                             const struct memoir_instance *instance, const struct memoir_keys *link,
+                             const uint8_t *ticket, size_t length);
 
 /* Goes on after a stop, and serves the lines of the input, each answered before the next is read. */
 enum host_status host_serve(struct host *host, int input, int output, unsigned long *line);

@@ -85,7 +85,7 @@ extern "C" {
 #define MEMOIR_RECORD (48 + MEMOIR_LONGEST_REQUEST)
 /* How much more room than that of memoir_room is enough for a batch. */
 #define MEMOIR_LINES (63 * (MEMOIR_LONGEST_REQUEST + 1) + 1)
-/* The most device steps that a call makes: in Basic 2, in Opt 5; a checkpoint 3. */
+/* The most device steps that a call makes: in Basic 2, in Opt 5; a checkpoint 3, a move 2. */
 #define MEMOIR_STEPS 5
 
 /* What a function says. */
@@ -132,6 +132,21 @@ extern "C" {
 #define MEMOIR_DIFFERS 17
 /* A checkpoint found no open segment, and changed nothing. */
 #define MEMOIR_NO_SEGMENT 18
+
+/* What only a move says: that the core refused it, and nothing was changed; or that it was made before. */
+
+/* The platform has a module, or waits for another ticket. */
+#define MEMOIR_ALREADY 19
+/* A segment of Opt is open: a module doesn't leave inside one. */
+#define MEMOIR_OPEN 20
+/* The module has left the platform. */
+#define MEMOIR_GONE 21
+/* The platform waits for a ticket with another nonce. */
+#define MEMOIR_NONCE 22
+/* The cell of Opt has another barrier than the link. */
+#define MEMOIR_BARRIER 23
+/* The platform was invited before, just so, and nothing was changed. */
+#define MEMOIR_AGAIN 24
 
 /* What was passed is of no use. It isn't looked at further, but for MEMOIR_NO_ROOM; of several the first here is told.
  * What the steps did they have done: call again with the same, and what was wrong put right. */
@@ -289,6 +304,53 @@ uint32_t memoir_ask_keeping(const struct memoir_instance *instance, const struct
  * MEMOIR_BLANK, MEMOIR_OTHER_CELL, MEMOIR_LOST, MEMOIR_KIND, MEMOIR_NEXT, MEMOIR_DIFFERS, MEMOIR_TOO_MANY or
  * MEMOIR_NO_STEP. */
 uint32_t memoir_checkpoint(const struct memoir_step *steps, size_t step_count, struct memoir_step *next);
+
+/* MOVES: a module leaves one platform for another, with its one list of requests. Both share a link of 64 secret random
+ * bytes: the key of its tickets and, in Opt, the barrier of the modules that move over it. Each move reads the cell, and
+ * its second and last step writes it. One whose answer was lost is made again with the same, and answers the same.
+ *
+ *     1. memoir_invite, where the module is to go: its cell, blank or retired, waits for the ticket with this nonce. Nonce
+ *        and key are new random bytes each time, kept before the call: no nonce is invited twice.
+ *     2. memoir_retire, where it is, with the newest snapshot and this nonce: the cell is retired, and the ticket out.
+ *     3. memoir_accept, where it is awaited, with that ticket: the module is there, and the snapshot is its newest.
+ *
+ * A ticket is no secret, but who can seal one under the link's key makes a second module. */
+
+/* What a move gives: with MEMOIR_DONE all but `next`, with MEMOIR_NEXT that alone. */
+struct memoir_moved {
+    /* How many bytes of the room are the ticket, or the snapshot: at most memoir_room less 4,096. */
+    size_t length;
+    /* Of memoir_accept the position of the last request that was answered, 0 before the first; of memoir_retire 0. */
+    uint64_t position;
+    /* The step that is to be made. */
+    struct memoir_step next;
+};
+
+/* What an invitation comes to with these steps made. MEMOIR_NEXT alone writes, the step that is to be made. It says, of
+ * several that apply the first: MEMOIR_NO_VARIANT, MEMOIR_NO_MODULE, MEMOIR_TOO_MANY, MEMOIR_NO_STEP; MEMOIR_NEXT,
+ * MEMOIR_DIFFERS; MEMOIR_DEVICE; MEMOIR_ALREADY; MEMOIR_DONE or MEMOIR_AGAIN. Basic ignores the link's barrier. */
+uint32_t memoir_invite(const struct memoir_instance *instance, const struct memoir_step *steps, size_t step_count,
+                       const struct memoir_keys *link, const uint8_t nonce[MEMOIR_KEY], const uint8_t key[MEMOIR_KEY],
+                       struct memoir_step *next);
+
+/* What a retirement comes to with these steps made, which offers the newest snapshot. MEMOIR_DONE writes the ticket to the
+ * room. From the cell that is retired under this nonce it makes the same ticket again, in one step. It says, behind those
+ * of what was passed: MEMOIR_BLANK; MEMOIR_OTHER_CELL (one that waits, too); of a live cell MEMOIR_BARRIER and
+ * MEMOIR_OPEN; of a retired one MEMOIR_GONE, under another nonce; of the snapshot MEMOIR_FORM, MEMOIR_KIND, MEMOIR_STATE,
+ * MEMOIR_TAG and MEMOIR_STALE; MEMOIR_MEMORY; MEMOIR_NO_ROOM, which doesn't come with the room of memoir_room. MEMOIR_DEVICE
+ * at either step. */
+uint32_t memoir_retire(const struct memoir_instance *instance, const struct memoir_step *steps, size_t step_count,
+                       const struct memoir_keys *link, const uint8_t nonce[MEMOIR_KEY], const uint8_t *offer,
+                       size_t offer_length, struct memoir_moved *reply, uint8_t *room, size_t room_length);
+
+/* What an acceptance comes to with these steps made. MEMOIR_DONE writes the newest snapshot to the room. From the live cell
+ * that it wrote it gives the same again, in one step, until the first request is asked there. It says, behind those of what
+ * was passed: MEMOIR_BLANK; MEMOIR_GONE, where the cell is retired; MEMOIR_OTHER_CELL; MEMOIR_BARRIER; of the ticket
+ * MEMOIR_FORM, MEMOIR_KIND, MEMOIR_STATE and MEMOIR_TAG; MEMOIR_NONCE; of a live cell MEMOIR_STALE, where it is elsewhere
+ * or in a segment; MEMOIR_MEMORY; MEMOIR_NO_ROOM, as above. MEMOIR_DEVICE at either step. */
+uint32_t memoir_accept(const struct memoir_instance *instance, const struct memoir_step *steps, size_t step_count,
+                       const struct memoir_keys *link, const uint8_t *ticket, size_t ticket_length,
+                       struct memoir_moved *reply, uint8_t *room, size_t room_length);
 
 /* Writes the record of the request that is to take this position, and its length: 48 bytes more than the request's.
  * Says MEMOIR_DONE, MEMOIR_NO_POSITION, MEMOIR_LONG, MEMOIR_MEMORY or MEMOIR_NO_ROOM. */

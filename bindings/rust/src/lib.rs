@@ -4,9 +4,11 @@
 //! What is proved ends at the static library's functions. This crate makes the steps that these tell, and nothing else.
 
 mod host;
+mod moves;
 pub mod sys;
 
 pub use host::{Host, HostFault, Store};
+pub use moves::{Accepted, Invited, Link, MoveRefusal};
 
 use sys::{CELL, KEY, REGISTER};
 

@@ -24,6 +24,12 @@ pub const FULL: u32 = 12;
 pub const NEXT: u32 = 16;
 pub const DIFFERS: u32 = 17;
 pub const NO_SEGMENT: u32 = 18;
+pub const ALREADY: u32 = 19;
+pub const OPEN: u32 = 20;
+pub const GONE: u32 = 21;
+pub const NONCE: u32 = 22;
+pub const BARRIER: u32 = 23;
+pub const AGAIN: u32 = 24;
 pub const NO_VARIANT: u32 = 32;
 pub const NO_MODULE: u32 = 33;
 pub const TOO_MANY: u32 = 34;
@@ -99,6 +105,14 @@ pub struct First {
     pub cell: [u8; CELL],
 }
 
+#[repr(C)]
+#[derive(Clone, Copy)]
+pub struct Moved {
+    pub length: usize,
+    pub position: u64,
+    pub next: Step,
+}
+
 extern "C" {
     pub fn memoir_module_id(name: *const u8, name_length: usize) -> u8;
     pub fn memoir_cell_instance(cell: *const [u8; CELL], instance: *mut Instance) -> u32;
@@ -152,6 +166,38 @@ extern "C" {
         room_length: usize,
     ) -> u32;
     pub fn memoir_checkpoint(steps: *const Step, step_count: usize, next: *mut Step) -> u32;
+    pub fn memoir_invite(
+        instance: *const Instance,
+        steps: *const Step,
+        step_count: usize,
+        link: *const Keys,
+        nonce: *const [u8; KEY],
+        key: *const [u8; KEY],
+        next: *mut Step,
+    ) -> u32;
+    pub fn memoir_retire(
+        instance: *const Instance,
+        steps: *const Step,
+        step_count: usize,
+        link: *const Keys,
+        nonce: *const [u8; KEY],
+        offer: *const u8,
+        offer_length: usize,
+        reply: *mut Moved,
+        room: *mut u8,
+        room_length: usize,
+    ) -> u32;
+    pub fn memoir_accept(
+        instance: *const Instance,
+        steps: *const Step,
+        step_count: usize,
+        link: *const Keys,
+        ticket: *const u8,
+        ticket_length: usize,
+        reply: *mut Moved,
+        room: *mut u8,
+        room_length: usize,
+    ) -> u32;
     pub fn memoir_pending(
         position: u64,
         request: *const u8,
