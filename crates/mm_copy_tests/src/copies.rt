@@ -241,13 +241,31 @@ fn is_served(
     served.is_ok() && it.out.content() == TOLD
 }
 
-fn goes_on(
+fn goes_on_over(
     alloc: Global,
+    it: &mut Objects,
     store: &mut PageStore<MemPages>,
-    copy: PageStore<MemPages>,
 ) -> Result<bool, Memory> {
+    let is_well = is_gone_on(alloc, it, store);
+    Ok(is_served(alloc, it, store, begun_copy(alloc)?) && is_well)
+}
+
+fn begun_copy(alloc: Global) -> Result<PageStore<MemPages>, Memory> {
+    let mut copy = pages(alloc)?;
+    match first_copy(alloc, Variant::Basic, &mut copy) {
+        Ok(true) => Ok(copy),
+        _ => Err(Memory),
+    }
+}
+
+fn goes_on_with(alloc: Global, it: &mut Objects) -> Result<bool, Memory> {
+    let mut store = pages(alloc)?;
+    goes_on_over(alloc, it, &mut store)
+}
+
+fn goes_on(alloc: Global) -> Result<bool, Memory> {
     let mut it = new_objects(alloc)?;
-    Ok(is_gone_on(alloc, &mut it, store) && is_served(alloc, &mut it, store, copy))
+    goes_on_with(alloc, &mut it)
 }
 
 #[test]
@@ -270,9 +288,6 @@ fn a_copy_put_back_repeats_behind_a_checkpoint(rt: HostRuntime) -> Result<(), Fa
 
 #[test]
 fn a_program_goes_on_in_memory(rt: HostRuntime) -> Result<(), Fail> {
-    let mut copy = pages(rt.alloc())?;
-    assert!(rt; first_copy(rt.alloc(), Variant::Basic, &mut copy)?);
-    let mut store = pages(rt.alloc())?;
-    assert!(rt; goes_on(rt.alloc(), &mut store, copy)?);
+    assert!(rt; goes_on(rt.alloc())?);
     Ok(())
 }
