@@ -72,35 +72,64 @@ fn has_heard_sums(alloc: Global, client: &Client) -> Result<bool, Memory> {
     Ok(true)
 }
 
-// Whether he is served by a program over new devices, behind these cuts.
-fn is_served(alloc: Global, variant: Variant, seed: u64, wanted: &[Bytes]) -> Result<bool, Memory> {
-    let mut entropy = MemSource::new(alloc, &[7; 64], &[])?;
-    let store = PageStore::new(alloc, MemPages::new(alloc)?)?;
-    let mut program = LocalProgram {
-        alloc,
-        variant,
-        module: Counter,
-        platform: TwoCell::new(MemRaw::new(alloc)),
-        store,
-        connection: Cuts { seed, left: 40 },
-    };
-    match serve_local_client(&mut program, &mut entropy, wanted, 44) {
-        Ok(client) => is_sure_of_all(alloc, &client),
-        Err(_) => Ok(false),
-    }
-}
-
 // He is sure that each of his requests was run.
 fn is_sure_of_all(alloc: Global, client: &Client) -> Result<bool, Memory> {
     Ok(client.is_sure() && client.position() == 20 && has_heard_sums(alloc, client)?)
 }
 
+/// A program over devices in memory.
+type Program = LocalProgram<Counter, TwoCell<MemRaw>, PageStore<MemPages>, Cuts>;
+
+fn is_served_by(
+    alloc: Global,
+    program: &mut Program,
+    entropy: &mut MemSource,
+    wanted: &[Bytes],
+) -> Result<bool, Memory> {
+    match serve_local_client(program, entropy, wanted, 44) {
+        Ok(client) => is_sure_of_all(alloc, &client),
+        Err(_) => Ok(false),
+    }
+}
+
+fn new_program(alloc: Global, variant: Variant, seed: u64) -> Result<Program, Memory> {
+    Ok(LocalProgram {
+        store: PageStore::new(alloc, MemPages::new(alloc)?)?,
+        alloc,
+        variant,
+        module: Counter,
+        platform: TwoCell::new(MemRaw::new(alloc)),
+        connection: Cuts { seed, left: 40 },
+    })
+}
+
+fn is_served_with(alloc: Global, program: &mut Program, wanted: &[Bytes]) -> Result<bool, Memory> {
+    let mut entropy = MemSource::new(alloc, &[7; 64], &[])?;
+    is_served_by(alloc, program, &mut entropy, wanted)
+}
+
+// Whether he is served by a new program, behind these cuts.
+fn is_served(alloc: Global, variant: Variant, seed: u64, wanted: &[Bytes]) -> Result<bool, Memory> {
+    let mut program = new_program(alloc, variant, seed)?;
+    is_served_with(alloc, &mut program, wanted)
+}
+
+fn is_always_served(alloc: Global, wanted: &[Bytes]) -> Result<bool, Memory> {
+    for (variant, seed) in [(Variant::Basic, 1), (Variant::Opt, 2), (Variant::Basic, 3)] {
+        if !is_served(alloc, variant, seed, wanted)? {
+            return Ok(false);
+        }
+    }
+    Ok(true)
+}
+
+fn are_all_run(alloc: Global) -> Result<bool, Memory> {
+    let wanted = requests(alloc)?;
+    is_always_served(alloc, wanted.as_slice())
+}
+
 #[test]
 fn each_request_of_a_client_is_run_once(rt: HostRuntime) -> Result<(), Fail> {
-    let alloc = rt.alloc();
-    let wanted = requests(alloc)?;
-    for (variant, seed) in [(Variant::Basic, 1), (Variant::Opt, 2), (Variant::Basic, 3)] {
-        assert!(rt; is_served(alloc, variant, seed, wanted.as_slice())?);
-    }
+    assert!(rt; are_all_run(rt.alloc())?);
     Ok(())
 }

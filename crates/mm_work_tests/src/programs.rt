@@ -45,8 +45,17 @@ fn started(
     platform: &mut TwoCell<MemRaw>,
 ) -> Result<Bytes, Memory> {
     let mut entropy = secrets(alloc)?;
+    started_by(alloc, variant, platform, &mut entropy)
+}
+
+fn started_by(
+    alloc: Global,
+    variant: Variant,
+    platform: &mut TwoCell<MemRaw>,
+    entropy: &mut MemSource,
+) -> Result<Bytes, Memory> {
     let mut store = pages(alloc)?;
-    first_over(alloc, variant, platform, &mut entropy, &mut store)
+    first_over(alloc, variant, platform, entropy, &mut store)
 }
 
 // Whether a request is run by a call of Basic.
@@ -77,13 +86,18 @@ fn new_platform(alloc: Global) -> TwoCell<MemRaw> {
     TwoCell::new(MemRaw::new(alloc))
 }
 
+fn is_run(alloc: Global, variant: Variant) -> Result<bool, Memory> {
+    let mut platform = new_platform(alloc);
+    match variant {
+        Variant::Basic => is_run_in_basic(alloc, &mut platform),
+        Variant::Opt => is_run_in_opt(alloc, &mut platform),
+    }
+}
+
 #[test]
 fn calls_are_made_in_memory(rt: HostRuntime) -> Result<(), Fail> {
-    let alloc = rt.alloc();
-    let mut platform = new_platform(alloc);
-    assert!(rt; is_run_in_basic(alloc, &mut platform)?);
-    let mut platform = new_platform(alloc);
-    assert!(rt; is_run_in_opt(alloc, &mut platform)?);
+    assert!(rt; is_run(rt.alloc(), Variant::Basic)?);
+    assert!(rt; is_run(rt.alloc(), Variant::Opt)?);
     Ok(())
 }
 
@@ -138,14 +152,18 @@ fn are_run(alloc: Global, host: &mut Turns, handed: &mut MemHandedObjects) -> bo
     came.is_ok() && handed.out.content() == TOLD
 }
 
-fn are_run_by_turns(alloc: Global, host: &mut Turns) -> Result<bool, Memory> {
+fn are_run_by(alloc: Global, host: &mut Turns) -> Result<bool, Memory> {
     let mut handed = new_handed(alloc)?;
     Ok(are_run(alloc, host, &mut handed))
 }
 
+fn are_run_by_turns(alloc: Global) -> Result<bool, Memory> {
+    let mut host = new_turns(alloc)?;
+    are_run_by(alloc, &mut host)
+}
+
 #[test]
 fn commands_are_run_as_a_host_says(rt: HostRuntime) -> Result<(), Fail> {
-    let mut host = new_turns(rt.alloc())?;
-    assert!(rt; are_run_by_turns(rt.alloc(), &mut host)?);
+    assert!(rt; are_run_by_turns(rt.alloc())?);
     Ok(())
 }
