@@ -5,7 +5,30 @@ use mm_digest::{Digest, Variant};
 use mm_module::Counter;
 use mm_platform::MemPlatform;
 use mm_told::{HostStep, MadeStep, ask_by_steps, make};
+use std::alloc::Global;
 use std::test::Fail;
+
+fn is_answered(alloc: Global, platform: &mut MemPlatform, first: &[u8], again: bool) -> bool {
+    match ask_by_steps(alloc, &Counter, platform, first, b"add 5") {
+        Some(Ok(answer)) => {
+            let is_told = answer.output.as_slice() == b"5".as_slice();
+            is_told && answer.again == again && answer.position == 1
+        }
+        _ => false,
+    }
+}
+
+// Whether a request is run once, and then repeated.
+fn is_run_once(alloc: Global, platform: &mut MemPlatform, first: &[u8]) -> bool {
+    let is_new = is_answered(alloc, platform, first, false);
+    let is_again = is_answered(alloc, platform, first, true);
+    is_new && is_again && platform.nv_writes() == 1
+}
+
+fn is_made_by_steps(alloc: Global, cell: &[u8; 104], first: &[u8]) -> bool {
+    let mut platform = MemPlatform::new(alloc, cell);
+    is_run_once(alloc, &mut platform, first)
+}
 
 #[test]
 fn a_call_is_made_by_steps(rt: HostRuntime) -> Result<(), Fail> {
@@ -14,26 +37,27 @@ fn a_call_is_made_by_steps(rt: HostRuntime) -> Result<(), Fail> {
         barrier: [9; 32],
     };
     let made = provision(rt.alloc(), Variant::Basic, &Counter, &secrets)?;
-    let mut platform = MemPlatform::new(rt.alloc(), &made.cell);
-    let first = made.snapshot.as_slice();
-    for again in [false, true] {
-        match ask_by_steps(rt.alloc(), &Counter, &mut platform, first, b"add 5") {
-            Some(Ok(answer)) => {
-                assert!(rt; answer.again == again && answer.position == 1);
-                assert_eq!(rt; answer.output.as_slice(), b"5".as_slice());
-            }
-            _ => assert!(rt; false),
-        }
-    }
-    assert_eq!(rt; platform.nv_writes(), 1);
+    assert!(rt; is_made_by_steps(rt.alloc(), &made.cell, made.snapshot.as_slice()));
     Ok(())
 }
 
-#[test]
-fn each_step_is_made(rt: HostRuntime) -> Result<(), Fail> {
-    let mut platform = MemPlatform::new(rt.alloc(), &[0; 104]);
+// Whether this step is made, where each before it in the list below was.
+fn is_made(platform: &mut MemPlatform, step: &HostStep, value: &Digest) -> bool {
+    match make(platform, step) {
+        Ok(MadeStep::ReadCell(Ok(bytes))) => bytes == [0; 104],
+        Ok(MadeStep::ReadRegister(Ok(read))) => read.bytes == [0; 32],
+        Ok(MadeStep::WriteCell(bytes, Ok(()))) => bytes == *platform.cell(),
+        Ok(MadeStep::ResetRegister(Ok(()))) => platform.register().bytes == [0; 32],
+        Ok(MadeStep::ExtendRegister(by, Ok(()))) => {
+            by.bytes == value.bytes && platform.own_items() == 1
+        }
+        _ => false,
+    }
+}
+
+fn steps_made(platform: &mut MemPlatform) -> u32 {
     let value = Digest { bytes: [5; 32] };
-    let mut answered = 0u32;
+    let mut count = 0u32;
     for step in [
         HostStep::ReadCell,
         HostStep::WriteCell([3; 104]),
@@ -41,18 +65,20 @@ fn each_step_is_made(rt: HostRuntime) -> Result<(), Fail> {
         HostStep::ExtendRegister(value),
         HostStep::ResetRegister,
     ] {
-        match make(&mut platform, &step)? {
-            MadeStep::ReadCell(Ok(bytes)) => assert!(rt; bytes == [0; 104]),
-            MadeStep::ReadRegister(Ok(read)) => assert!(rt; read.bytes == [0; 32]),
-            MadeStep::WriteCell(bytes, Ok(())) => assert!(rt; bytes == *platform.cell()),
-            MadeStep::ResetRegister(Ok(())) => assert!(rt; platform.register().bytes == [0; 32]),
-            MadeStep::ExtendRegister(by, Ok(())) => {
-                assert!(rt; by.bytes == value.bytes && platform.own_items() == 1);
-            }
-            _ => assert!(rt; false),
+        if is_made(platform, &step, &value) {
+            count = count.wrapping_add(1);
         }
-        answered = answered.wrapping_add(1);
     }
-    assert_eq!(rt; answered, 5);
+    count
+}
+
+fn steps_made_in_memory(alloc: Global) -> u32 {
+    let mut platform = MemPlatform::new(alloc, &[0; 104]);
+    steps_made(&mut platform)
+}
+
+#[test]
+fn each_step_is_made(rt: HostRuntime) -> Result<(), Fail> {
+    assert_eq!(rt; steps_made_in_memory(rt.alloc()), 5);
     Ok(())
 }
