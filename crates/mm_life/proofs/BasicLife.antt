@@ -24,6 +24,7 @@ use Rattle.mm_call.specs.OfferLaws.{basic_content, issued_once}
 use Rattle.mm_call.specs.WalkLaws.{committed-foreign}
 use Rattle.mm_call.proofs.Above.{names_made, read_moves}
 use Rattle.mm_opt.specs.CheckpointOnCourse.{IsCheckpointOnCourse}
+use Rattle.mm_recovery.proofs.Above.{basic_batch_met}
 use Rattle.mm_host.proofs.Above.{basic_laws}
 use Rattle.mm_life.specs.Deeds.{LifeCall, Calls, Checkpoints, Deed, DeedLeads, Extends, LosesPower}
 use Rattle.mm_life.specs.Laws.{BasicLifeIsOne}
@@ -102,7 +103,9 @@ module _ (meaning : Meaning) (lawful : IsLawful meaning) (key : List ℕ) where
     stays = λ y old deed new quiet seen f stands within.
         stays meaning key all [] asked clear y old deed new quiet f stands within;
     few = λ old calls still. absurd still;
-    idles = λ y old new c still makes. absurd still;
+    idles = λ y old new offer request gives still makes. absurd still;
+    met = λ y old new c goes stands asks seen.
+        basic_batch_met meaning lawful key all [] asked y old new c.offer c.batch c.gives goes stands asks;
     stays_still = λ y old deed new quiet still f stands within. absurd still;
   }
 

@@ -26,8 +26,8 @@ use Rattle.mm_host.specs.declared.fault.SessionFault.TheVariants.{Host, Lines}
 use Rattle.mm_host.proofs.Above.{CallsInTurn, TellsCall}
 use Rattle.mm_life.specs.Deeds.{LifeCall}
 use Rattle.mm_life.specs.IdleParts.{has_open_segment}
-use Rattle.mm_life.specs.OneList.{call_replies, told_replies}
-use Rattle.mm_life.specs.LifeWrites.{call_stop, fault_stop, host_stop, new_replies, refusal_stop, session_stop, turns_between}
+use Rattle.mm_life.specs.OneList.{told_replies}
+use Rattle.mm_life.specs.LifeWrites.{host_stop, new_replies, session_stop, turns_between}
 use Rattle.mm_life.specs.LifeWrites.{turns_unless_stopped}
 use Rattle.std.specs.Prelude.{if◌then◌else◌}
 use Rattle.mm_life.proofs.Chains.{Ends, rests as at_rest, stops}
@@ -147,22 +147,6 @@ module _ (variant : Variant) (meaning : Meaning) where
   told_write (c ∷ told) offer before at h =
       both_writes variant (new_requests_by c.answer.again) (new_replies (told_replies told)) before h.0 at (call_answered variant h.1)
       (told_write told c.answer.snapshot h.0 at h.2)
-
-  pub call_writes : (old new : Standing) (offer request : List ℕ) (gives : Result Answer Refusal)
-      → IsCall variant meaning old new offer request gives → CallsWrite variant old new (new_replies (call_replies gives)) (call_stop gives)
-  call_writes old new offer request (Ok answer) c =
-      let more : new_requests_by answer.again ≡ new_requests_by answer.again + 0 = omega arith in
-      record {
-        at = new;
-        answered = subst (λ (n : ℕ). AnsweredWrites variant n old new) more (call_answered variant c);
-        last = last_none variant new new 0 refl;
-      }
-  call_writes old new offer request (Err why) c = record {
-    at = old;
-    answered = record { writes = rests variant old old refl; leads = leads_rest variant old old refl };
-    last = last_refused old new offer request why (refusal_stop why) (fault_of why) c refl
-        (λ f e. ap fault_stop e);
-  }
 
 -- the count of a part, from what was due and in hand
 pub record Counts (old new : Standing) (stop due : ℕ) : Type 0 where

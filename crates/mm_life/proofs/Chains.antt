@@ -26,13 +26,9 @@ use Rattle.mm_host.specs.Sessions.{SessionStopsInLine, reply_text}
 use Rattle.mm_host.specs.declared.fault.SessionFault.{SessionFault}
 use Rattle.mm_host.specs.declared.fault.SessionFault.TheVariants.{Host, Lines}
 use Rattle.mm_host.proofs.Above.{CallsInTurn, TellsCall, front_of, last_offer, served_calls, store_untold, tells_call}
-use Rattle.mm_life.specs.Deeds.{LifeCall}
+use Rattle.mm_life.specs.Deeds.{LifeCall, call_of}
 use Rattle.mm_life.specs.SessionCalls.{IsInHandOf, bytes_of, first_bytes, first_calls, found_host, found_record, last_calls, line_calls}
 use Rattle.mm_life.specs.SessionCalls.{offer_after_finding, offered_calls, recorded_calls, served_calls_of, untold_calls}
-
--- one call, by what was offered, asked and given
-abbrev pub call_of : List ℕ → List ℕ → Result Answer Refusal → LifeCall
-call_of offer request gives = record { offer = offer; request = request; gives = gives }
 
 -- How a session ends behind what it told: it rests, with no call more; or a request in hand was called, and what came of it
 -- ends the session.

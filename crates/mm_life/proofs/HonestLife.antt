@@ -246,11 +246,13 @@ module _ {all others : List (List ℕ)} {asked : List Batch} {i : Instance} {IsS
       let laws = life.laws new in
       let k = session_chain s in
       let reaches = calls_reach laws (first_bytes s) old k.at (served_calls_of s) k.calls (ends_reach laws k.ends) in
-      let seen_so : Shows i.variant all others i y old new ⊎ AreStill laws y old (session_calls s) = elim seen [
+      let seen_so : Shows i.variant all others i y old new ⊎ AreStill laws y old (first_bytes s) (session_calls s) = elim seen [
         | inl shown ↦ inl (life.shows y old (Holds p) new shown stands reaches (chain_leads i life.leads k))
         | inr still ↦ inr (
           life.few old (session_calls s) still,
-          λ c one middle makes. life.idles y old middle c (subst (λ (calls : List LifeCall). IsStill old calls) one still) makes,
+          λ request gives one middle makes.
+              life.idles y old middle (first_bytes s) request gives (subst (λ (calls : List LifeCall). IsStill old calls) one still)
+              makes,
         )
       ] in
       let here : p.old.kept.slots ≡ Some slots = begins.1 ∙ told in

@@ -42,16 +42,17 @@ use Rattle.mm_base.specs.declared.replay_fault.ReplayFault.TheVariants.{WriteFau
 use Rattle.mm_host.specs.declared.fault.SessionFault.TheVariants.{Lines}
 use Rattle.mm_host.specs.Continuation.{last_bytes_in}
 use Rattle.mm_life.specs.OneList.{SessionSteps}
-use Rattle.mm_life.specs.Deeds.{LifeCall}
+use Rattle.mm_module.specs.Batch.{batch_text}
+use Rattle.mm_life.specs.Deeds.{LifeCall, call_of}
 use Rattle.mm_life.specs.SessionCalls.{bytes_of, first_bytes, first_calls, found_host, found_record, IsInHandOf, last_calls, offered_calls}
 use Rattle.mm_life.specs.SessionCalls.{offer_after_finding, recorded_calls, session_calls, told_calls, untold_calls}
-use Rattle.mm_life.proofs.Chains.{Chain, Ends, call_of, rests, session_chain, stops}
+use Rattle.mm_life.proofs.Chains.{Chain, Ends, rests, session_chain, stops}
 use Rattle.mm_life.proofs.OneCall.{AreListed, makes_call}
 use Rattle.mm_life.proofs.Sessions.{AreIdle, ends_reach, listed_first, listed_rest}
 
 -- what was asked, by the calls that were made
 abbrev pub requests_in : List LifeCall → List (List ℕ)
-requests_in calls = map (λ c. c.request) calls
+requests_in calls = map (λ c. batch_text c.batch) calls
 
 module _ {all others : List (List ℕ)} {asked : List Batch} {i : Instance} {final : Standing} (laws : Laws all others asked i final) where
   asked_last : {sent : List ℕ} (z : History) (at : Standing) (offer : List ℕ) (hand : List ℕ → Type 0) (untold : List LifeCall)
@@ -88,8 +89,8 @@ module _ {all others : List (List ℕ)} {asked : List Batch} {i : Instance} {fin
       )
 
   -- at most one call was made, and it minds no register
-  abbrev pub AreStill : History → Standing → List LifeCall → Type 0
-  AreStill y before calls = ((calls ≡ []) ⊎ ((c : LifeCall) × (calls ≡ c ∷ []))) × AreIdle laws y before calls
+  abbrev pub AreStill : History → Standing → List ℕ → List LifeCall → Type 0
+  AreStill y before offer calls = ((calls ≡ []) ⊎ ((c : LifeCall) × (calls ≡ c ∷ []))) × AreIdle laws y before offer calls
 
   -- these are asked, whatever others do
   abbrev AreAskedStill : History → Standing → List ℕ → List (List ℕ) → Type 0
@@ -97,7 +98,7 @@ module _ {all others : List (List ℕ)} {asked : List Batch} {i : Instance} {fin
 
   still_last : {sent : List ℕ} (y : History) (before : Standing) (offer : List ℕ) (hand : List ℕ → Type 0) (untold : List LifeCall)
       (result : Result Unit SessionFault) → Ends i.variant i.meaning before final offer hand sent untold result
-      → StandsIn all others asked i y y before offer → AreListed all asked i untold → AreStill y before untold
+      → StandsIn all others asked i y y before offer → AreListed all asked i untold → AreStill y before offer untold
       → AreAskedStill y before offer (requests_in untold)
   still_last y before offer hand untold result (rests same none unwritten) s listed still = rw none (tt, inr tt)
   still_last y before offer hand untold result (stops request h gives c is came t fault says ends) s listed still =
@@ -105,13 +106,13 @@ module _ {all others : List (List ℕ)} {asked : List Batch} {i : Instance} {fin
       let l : AreListed all asked i (made ∷ []) = rw is at listed in
       let first = listed_first all asked i made [] l in
       let m = makes_call laws before final offer request y (batch_result_of gives) c.goes s.stands s.within s.genuine l.batches.0 first in
-      rw is ((l.batches.0, first, tt), inr (still.1 made is final m, refl))
+      rw is ((l.batches.0, first, tt), inr (still.1 request gives is final m, refl))
 
   asked_still : {sent : List ℕ} (y : History) (before : Standing) (offer : List ℕ) (told : List ServedCall) (hand : List ℕ → Type 0)
       (untold : List LifeCall)
       (result : Result Unit SessionFault) → Chain i.variant i.meaning offer before final told hand sent untold result
       → StandsIn all others asked i y y before offer → AreListed all asked i (told_calls offer told ++ untold)
-      → AreStill y before (told_calls offer told ++ untold) → AreAskedStill y before offer (served_lines told ++ requests_in untold)
+      → AreStill y before offer (told_calls offer told ++ untold) → AreAskedStill y before offer (served_lines told ++ requests_in untold)
   asked_still {sent} y before offer [] hand untold result k s listed still =
       still_last y before offer hand untold result
       (subst (λ (x : Standing). Ends i.variant i.meaning x final offer hand sent untold result) k.calls k.ends) s listed still
@@ -122,7 +123,7 @@ module _ {all others : List (List ℕ)} {asked : List Batch} {i : Instance} {fin
       let first = listed_first all asked i made untold listed in
       let m = makes_call laws before k.calls.0 offer c.line y (Ok (batch_answer_of c.answer)) k.calls.1.goes s.stands s.within s.genuine
       listed.batches.0 first in
-      rw none ((listed.batches.0, first, tt), inr (still.1 made one k.calls.0 m, refl))
+      rw none ((listed.batches.0, first, tt), inr (still.1 c.line (Ok c.answer) one k.calls.0 m, refl))
   asked_still y before offer (c ∷ next ∷ told) hand untold result k s listed still =
       elim still.0 [ inl e ↦ absurd (cc) | inr one ↦ let clash = one.1 in absurd (cc) ]
 
@@ -249,7 +250,7 @@ module _ {all others : List (List ℕ)} {asked : List Batch} {i : Instance} {fin
     (y : History) (slots : Slots)
     (told : old.slots ≡ Some slots) (honest : old.is_honest ≡ true) (stands : StandsFor i before y)
     (within : IsWithin all others asked i y) (fits : FitsHistory i slots y)
-    (seen : Shows i.variant all others i y before final ⊎ AreStill laws y before (session_calls s)) where
+    (seen : Shows i.variant all others i y before final ⊎ AreStill laws y before (first_bytes s) (session_calls s)) where
   abbrev Went : Type 0
   Went = SessionGoesAfterResume i.variant i.meaning s.begun s.middle (host_standing final new) left' s.taken s.sent result
 
@@ -292,8 +293,9 @@ module _ {all others : List (List ℕ)} {asked : List Batch} {i : Instance} {fin
         | inr still ↦
             asked_still laws y before (first_offer slots fits.waiting) (served_calls_in fits.waiting s.goes) (IsInHandOf s)
             untold result k here l
-            (subst (λ (bytes : List ℕ). AreStill laws y before (told_calls bytes (served_calls_in fits.waiting s.goes) ++ untold)) is
-            (subst (λ (w : Option PendingRecord). AreStill laws y before (told_calls (first_bytes s) (served_calls_in w s.goes) ++ untold))
+            (subst (λ (bytes : List ℕ). AreStill laws y before bytes (told_calls bytes (served_calls_in fits.waiting s.goes) ++ untold)) is
+            (subst (λ (w : Option PendingRecord). AreStill laws y before (first_bytes s)
+            (told_calls (first_bytes s) (served_calls_in w s.goes) ++ untold))
             found still))
       ] in
       let c = continues_by laws s y y slots fits.waiting told honest fits.is_waiting fits.fits requests here follow.1 follow.0

@@ -8,7 +8,7 @@ use Rattle.mm_digest.specs.declared.variant.Variant.TheVariants.{Opt}
 use Rattle.mm_seal.specs.Snapshot.{Content}
 use Rattle.mm_platform.specs.Standing.{Standing}
 use Rattle.mm_platform.specs.declared.fault.StepFault.{StepFault}
-use Rattle.mm_module.specs.Batch.{Batch, One}
+use Rattle.mm_module.specs.Batch.{Batch, normal_batch}
 use Rattle.mm_module.specs.Meaning.{Meaning}
 use Rattle.mm_model.specs.History.{RegisterEntry, Foreign, History, Move}
 use Rattle.mm_model.specs.Instance.{Instance}
@@ -100,11 +100,12 @@ module _ (meaning : Meaning) (key barrier : List ℕ) where
   digests_say : SaysAgain (digest_level I)
   digests_say again seen end offered b = refl
 
-  module _ (all others : List (List ℕ)) (asked : List Batch) (y : History) (old new : Standing) (offer request : List ℕ)
-      (gives : Result BatchAnswer Refusal) (c : IsCallOnCourse Opt meaning old new offer (One request) gives) (s : StandsFor I old y)
-      (a : AreAsked all others asked I y offer (One request)) (shut : y.is_open ≡ false) (n : IsNotNew gives) where
+  module _ (all others : List (List ℕ)) (asked : List Batch) (y : History) (old new : Standing) (offer : List ℕ)
+      (batch : Batch) (gives : Result BatchAnswer Refusal) (c : IsCallOnCourse Opt meaning old new offer batch gives)
+      (s : StandsFor I old y) (a : AreAsked all others asked I y offer (normal_batch batch)) (shut : y.is_open ≡ false)
+      (n : IsNotNew gives) where
     abbrev b : Batch
-    b = One request
+    b = normal_batch batch
 
     abbrev d : Digests
     d = digests_of I y

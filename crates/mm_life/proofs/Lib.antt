@@ -19,10 +19,12 @@ mod Unlost
 mod OptCaller
 mod Standings
 mod CallCounts
+mod BatchCounts
 mod ClosingCounts
 mod Longer
 mod Writing
 mod OneRequest
 mod NotThere
+mod BatchDeeds
 mod KilledPrograms
 pub mod Above

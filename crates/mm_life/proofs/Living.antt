@@ -1,10 +1,10 @@
 -- A life, part after part, in either variant.
 use Rattle.std.specs.List.{AllByRecursion, Contains, flat_map}
-use Rattle.std.proofs.Common.{◌≡◌, ◌⊎◌, ℕ, List, [], ◌∷◌, ◌++◌, refl, ap, append_assoc, subst, inl, inr}
+use Rattle.std.proofs.Common.{◌≡◌, ◌⊎◌, ℕ, List, [], ◌∷◌, ◌++◌, Result, refl, ap, append_assoc, subst, inl, inr}
 use Rattle.std.proofs.lemmas.Grind.{flat_map-append}
 use Rattle.std.proofs.lemmas.List.{append-nil, map-append}
 use Rattle.mm_platform.specs.Standing.{Standing}
-use Rattle.mm_module.specs.Batch.{Batch, One}
+use Rattle.mm_module.specs.Batch.{Batch, One, normal_batch}
 use Rattle.mm_model.specs.History.{History, requests_of}
 use Rattle.mm_model.specs.Instance.{Instance}
 use Rattle.mm_model.specs.ListLaws.{each_append, each_left, each_right}
@@ -12,19 +12,21 @@ use Rattle.mm_model.specs.Standing.{IsGenuine, StandsFor}
 use Rattle.mm_call.specs.CallPremises.{IsWithin, right_messages}
 use Rattle.mm_call.specs.CallFinding.{right_content}
 use Rattle.mm_call.specs.Untouched.{batch_result_of}
-use Rattle.mm_call.specs.Premises.{IsIdle}
-use Rattle.mm_recovery.specs.HostCall.{IsCall}
+use Rattle.mm_call.specs.CallOnCourse.{IsCallOnCourse}
+use Rattle.mm_call.specs.Premises.{AreAsked, IsIdle}
+use Rattle.mm_model.specs.declared.answer.Answer.{Answer}
+use Rattle.mm_model.specs.declared.refusal.Refusal.{Refusal}
 use Rattle.mm_call.proofs.Above.{each_at}
-use Rattle.mm_recovery.proofs.Above.{Met}
+use Rattle.mm_recovery.proofs.Above.{BatchMet}
 use Rattle.mm_host.proofs.Above.{Laws, Makes, Reaches, Shows, pending_for}
-use Rattle.mm_life.specs.Deeds.{LifeCall, Calls, Checkpoints, Deed, DeedLeads, Extends, LosesPower}
+use Rattle.mm_life.specs.Deeds.{LifeCall, Calls, Checkpoints, Deed, DeedLeads, Extends, IsBatchCall, LosesPower, call_of}
 use Rattle.mm_life.specs.OneList.{LifeFollows, IsLastJudged, PartSteps}
 use Rattle.mm_life.specs.Premises.{AreUntagged, IsFirstUntagged, issued_snapshot_in, call_batches, snapshots_of}
 use Rattle.mm_life.specs.SessionCalls.{IsInHandOf, first_bytes, session_calls, served_calls_of, untold_calls}
 use Rattle.mm_life.specs.DeedHistory.{IsNoCall, HistoryStays}
 use Rattle.mm_life.specs.Stages.{Does, Holds, IsLife, LifePart, PartLeads, Program, LifeStage, end_of, latest_calls, life_calls, part_calls}
 use Rattle.mm_life.proofs.Chains.{session_chain}
-use Rattle.mm_life.proofs.OneCall.{AreListed, all_genuine, issues_genuine, makes_call, met_judged, met_steps}
+use Rattle.mm_life.proofs.OneCall.{AreListed, all_genuine, batch_genuine, batch_judged, batch_steps}
 use Rattle.mm_life.proofs.Sessions.{CallsLead, IsFirstGenuine, Leads, Lived, chain_idles, chain_lives}
 
 -- What a life takes from its variant: the laws of calls up to a part's end; what is asked of a part by what stands before and
@@ -40,8 +42,13 @@ pub record LifeLaws (all others : List (List ℕ)) (asked : List Batch) (i : Ins
       → DeedLeads i.variant i.meaning old deed new → StandsFor i old y → IsWithin all others asked i y
       → HistoryStays all others asked i y new
   pub few : (old : Standing) (calls : List LifeCall) → IsStill old calls → (calls ≡ []) ⊎ ((c : LifeCall) × (calls ≡ c ∷ []))
-  pub idles : (y : History) (old new : Standing) (c : LifeCall) → IsStill old (c ∷ [])
-      → Makes all others asked i y old new c.offer (pending_for c.request) (batch_result_of c.gives) → IsIdle i y c.offer (One c.request)
+  pub idles : (y : History) (old new : Standing) (offer request : List ℕ) (gives : Result Answer Refusal)
+      → IsStill old (call_of offer request gives ∷ [])
+      → Makes all others asked i y old new offer (pending_for request) (batch_result_of gives) → IsIdle i y offer (One request)
+  pub met : (y : History) (old new : Standing) (c : LifeCall)
+      → IsCallOnCourse i.variant i.meaning old new c.offer c.batch c.gives → StandsFor i old y
+      → AreAsked all others asked i y c.offer (normal_batch c.batch) → IsSeen old (Does (Calls c)) new ⊎ IsStill old (c ∷ [])
+      → BatchMet all others asked i y new c.offer (normal_batch c.batch) c.gives
   pub stays_still : (y : History) (old : Standing) (deed : Deed) (new : Standing) → IsNoCall deed → IsStill old []
       → DeedLeads i.variant i.meaning old deed new → StandsFor i old y → IsWithin all others asked i y
       → HistoryStays all others asked i y new
@@ -57,9 +64,9 @@ pub listed_left : (all : List (List ℕ)) (asked : List Batch) (i : Instance) (c
     → AreListed all asked i calls
 listed_left all asked i calls more a = record {
   messages = each_left (Contains all) _ _
-      (rw (flat_map-append (λ (c : LifeCall). right_messages i (One c.request) (right_content i c.offer))
+      (rw (flat_map-append (λ (c : LifeCall). right_messages i (normal_batch c.batch) (right_content i c.offer))
       calls more) at a.messages);
-  batches = each_left (Contains asked) _ _ (rw (map-append (λ (c : LifeCall). One c.request) calls more) at a.batches);
+  batches = each_left (Contains asked) _ _ (rw (map-append (λ (c : LifeCall). normal_batch c.batch) calls more) at a.batches);
 }
 
 pub listed_right : (all : List (List ℕ)) (asked : List Batch) (i : Instance) (calls more : List LifeCall)
@@ -67,10 +74,10 @@ pub listed_right : (all : List (List ℕ)) (asked : List Batch) (i : Instance) (
     → AreListed all asked i more
 listed_right all asked i calls more a = record {
   messages = each_right (Contains all)
-      (flat_map (λ (c : LifeCall). right_messages i (One c.request) (right_content i c.offer)) calls) _
-      (rw (flat_map-append (λ (c : LifeCall). right_messages i (One c.request) (right_content i c.offer)) calls more) at a.messages);
+      (flat_map (λ (c : LifeCall). right_messages i (normal_batch c.batch) (right_content i c.offer)) calls) _
+      (rw (flat_map-append (λ (c : LifeCall). right_messages i (normal_batch c.batch) (right_content i c.offer)) calls more) at a.messages);
   batches = each_right (Contains asked) (call_batches calls) _
-      (rw (map-append (λ (c : LifeCall). One c.request) calls more) at a.batches);
+      (rw (map-append (λ (c : LifeCall). normal_batch c.batch) calls more) at a.batches);
 }
 
 module _ {all others : List (List ℕ)} {asked : List Batch} {i : Instance} {IsSeen : Standing → LifePart → Standing → Type 0}
@@ -81,31 +88,30 @@ module _ {all others : List (List ℕ)} {asked : List Batch} {i : Instance} {IsS
       Lived (life.laws new) y new (part_calls i.variant i.meaning old part new f)
       (λ after. PartSteps i.variant i.meaning old part new f (requests_of y.batches) after)
 
-  call_lives : (y : History) (old new : Standing) (c : LifeCall) (f : IsCall i.variant i.meaning old new c.offer c.request c.gives)
+  call_lives : (y : History) (old new : Standing) (c : LifeCall) (f : IsBatchCall i.variant i.meaning old new c)
       → StandsFor i old y → IsWithin all others asked i y → IsSeen old (Does (Calls c)) new ⊎ IsStill old (c ∷ [])
       → IsFirstGenuine i y (c ∷ [])
       → AreListed all asked i (c ∷ []) → PartLived y old (Does (Calls c)) new f
   call_lives y old new c f stands within seen first listed =
       let laws = life.laws new in
-      let makes = makes_call laws old new c.offer c.request y (batch_result_of c.gives) f.goes stands within first listed.batches.0
-      (each_left (Contains all) (right_messages i (One c.request) (right_content i c.offer)) [] listed.messages) in
-      let m : Met all others asked i y new c.offer (pending_for c.request) (batch_result_of c.gives) = elim seen [
-        | inl shown ↦
-            laws.met_last y old c.offer (pending_for c.request) (batch_result_of c.gives) makes
-            (life.shows y old (Does (Calls c)) new shown stands (laws.reach old new c.offer c.request (batch_result_of c.gives) f.goes)
-            (life.leads old new c.offer c.request (batch_result_of c.gives) f.goes))
-        | inr still ↦
-            laws.idle y old new c.offer (pending_for c.request) (batch_result_of c.gives) makes (life.idles y old new c still makes)
-      ] in
+      let asks : AreAsked all others asked i y c.offer (normal_batch c.batch) = record {
+        clear = laws.clear;
+        apart = laws.apart;
+        within = within;
+        is_asked = listed.batches.0;
+        genuine = first;
+        offered = each_left (Contains all) (right_messages i (normal_batch c.batch) (right_content i c.offer)) [] listed.messages;
+      } in
+      let m = life.met y old new c f.goes stands asks seen in
       record {
         after = m.after;
         stands = m.stands;
         within = m.within;
         names = m.names;
         issued = each_append (IsGenuine i m.after) (issued_snapshot_in c.gives) []
-            (issues_genuine laws old new c.offer c.request c.gives y f m) tt;
-        steps = met_steps y new c.offer c.request c.gives m;
-        judged = met_judged y new c.offer c.request c.gives m;
+            (batch_genuine laws new c.offer c.batch c.gives y f.fits m) tt;
+        steps = batch_steps y new c.offer c.batch c.gives f.fits m;
+        judged = batch_judged y new c m;
       }
 
   stays_lives : (y : History) (new : Standing) → HistoryStays all others asked i y new
@@ -136,7 +142,8 @@ module _ {all others : List (List ℕ)} {asked : List Batch} {i : Instance} {IsS
       chain_idles (life.laws new) y old (first_bytes f) (served_calls_of f) (IsInHandOf f) (untold_calls f f.goes) p.result
       (session_chain f) stands
       within first listed (life.few old (session_calls f) still)
-      (λ c one middle makes. life.idles y old middle c (subst (λ (calls : List LifeCall). IsStill old calls) one still) makes)
+      (λ request gives one middle makes.
+      life.idles y old middle (first_bytes f) request gives (subst (λ (calls : List LifeCall). IsStill old calls) one still) makes)
 
   deed_lives : (y : History) (old : Standing) (deed : Deed) (new : Standing) → IsNoCall deed
       → DeedLeads i.variant i.meaning old deed new → StandsFor i old y → IsWithin all others asked i y

@@ -1,20 +1,20 @@
 -- How much longer a life makes its list of requests.
 use Rattle.std.specs.Prelude.{IsSome}
 use Rattle.std.proofs.Common.{◌≡◌, ◌≤◌, ◌∙◌, ◌+◌, ℕ, Bool, true, false, List, [], ◌∷◌, ◌++◌, Option, None, Some, Result}
-use Rattle.std.proofs.Common.{Ok, Err, length, length-append, arith, refl, ap, inl, inr}
+use Rattle.std.proofs.Common.{Ok, Err, length, length-append, arith, refl, sym, ap, inl, inr}
 use Rattle.mm_base.specs.declared.replay_fault.ReplayFault.{ReplayFault}
 use Rattle.mm_digest.specs.declared.variant.Variant.{Variant}
 use Rattle.mm_platform.specs.Standing.{Standing}
 use Rattle.mm_platform.specs.declared.fault.StepFault.{StepFault}
-use Rattle.mm_module.specs.Batch.{One}
-use Rattle.mm_module.specs.Meaning.{Meaning}
-use Rattle.mm_model.specs.declared.answer.Answer.{Answer}
+use Rattle.mm_module.specs.Batch.{Batch, One, members_of, size_of}
+use Rattle.mm_module.specs.Meaning.{Meaning, state_after}
+use Rattle.mm_module.specs.RunLaws.{length-outputs_from}
+use Rattle.mm_model.specs.declared.answer.BatchAnswer.{BatchAnswer}
 use Rattle.mm_model.specs.declared.refusal.Refusal.{Refusal}
 use Rattle.mm_call.specs.Refusals.{fault_of}
 use Rattle.mm_schedule.specs.Machine.{IsBatchStep}
 use Rattle.mm_schedule.specs.declared.reply.Reply.{Reply}
 use Rattle.mm_schedule.specs.declared.reply.Reply.TheVariants.{Told}
-use Rattle.mm_recovery.specs.CellWrites.{new_requests_by}
 use Rattle.mm_recovery.specs.Recovery.{RequestMayBeCommitted}
 use Rattle.mm_recovery.specs.declared.fault.HostFault.{HostFault}
 use Rattle.mm_recovery.specs.declared.fault.HostFault.TheVariants.{Refused}
@@ -26,14 +26,18 @@ use Rattle.mm_life.specs.Deeds.{Calls, Checkpoints, Extends, LosesPower}
 use Rattle.mm_life.specs.OneList.{CallSteps, LifeFollows, PartSteps, SessionSteps, call_replies, life_replies, part_replies, told_replies}
 use Rattle.mm_life.specs.SessionCalls.{IsInHandOf, served_calls_of}
 use Rattle.mm_life.specs.Stages.{Does, Holds, IsLife, LifePart, PartLeads, LifeStage}
-use Rattle.mm_life.specs.LifeWrites.{call_stop, checkpoint_stop, fault_stop, host_stop, new_replies, part_stop, refusal_stop, session_stop}
-use Rattle.mm_life.specs.LifeWrites.{stops_in}
+use Rattle.mm_life.specs.LifeWrites.{call_hand, checkpoint_stop, fault_stop, hand_by, hands_in, host_stop, new_replies, new_requests_of}
+use Rattle.mm_life.specs.LifeWrites.{new_requests_told, part_hand, session_stop}
 
 pub new_append : (xs ys : List Reply) → new_replies (xs ++ ys) ≡ new_replies xs + new_replies ys
 new_append [] ys = omega arith
 new_append (x ∷ xs) ys = let rest = new_append xs ys in omega (arith, rest)
 
--- The list: the requests that were told for the first time, and at most one more at each stop.
+pub told_append : (xs ys : List Reply) → new_requests_told (xs ++ ys) ≡ new_requests_told xs + new_requests_told ys
+told_append [] ys = omega arith
+told_append (x ∷ xs) ys = let rest = told_append xs ys in omega (arith, rest)
+
+-- The list: the requests that were told for the first time, and at most those in hand at each stop.
 pub record IsLonger (before after : List (List ℕ)) (told stop : ℕ) : Type 0 where
   pub kept : ℕ
   pub few : kept ≤ stop
@@ -44,11 +48,21 @@ longer_none before after stop e =
     let same : length after ≡ length before = ap length e in
     record { kept = 0; few = omega arith; listed = omega (arith, same) }
 
+longer_batch : (before after : List (List ℕ)) (batch : Batch) (hand : ℕ) → hand ≡ size_of batch
+    → after ≡ before ++ members_of batch → IsLonger before after 0 hand
+longer_batch before after batch hand is e =
+    let more : length after ≡ length before + size_of batch = ap length e ∙ length-append before (members_of batch) in
+    record { kept = size_of batch; few = omega (arith, is); listed = omega (arith, more) }
+
 longer_one : (before after : List (List ℕ)) (request : List ℕ) (stop : ℕ) → stop ≡ 1 → after ≡ before ++ request ∷ []
     → IsLonger before after 0 stop
 longer_one before after request stop one e =
     let more : length after ≡ length before + length (request ∷ []) = ap length e ∙ length-append before (request ∷ []) in
     record { kept = 1; few = omega (arith, one); listed = omega (arith, more) }
+
+refused_hand : (broken : Option StepFault) (batch : Batch) → IsSome broken → hand_by broken batch ≡ size_of batch
+refused_hand None batch u = absurd (cc)
+refused_hand (Some fault) batch u = refl
 
 refused_untold : (broken : Option StepFault) → IsSome broken → fault_stop broken ≡ 1
 refused_untold None u = absurd (cc)
@@ -64,24 +78,27 @@ untold_stop (Err (Host fault)) u = host_untold fault u
 untold_stop (Err (Lines fault)) u = ap (λ (f : ReplayFault). session_stop (Err (Lines f))) u
 
 module _ (meaning : Meaning) where
-  step_longer : (again : Bool) (position : ℕ) (outputs : List (List ℕ)) (request : List ℕ) (before after : List (List ℕ))
-      → IsBatchStep meaning before (One request) (Told again position outputs) after → length after ≡ length before + new_requests_by again
-  step_longer false position outputs request before after s =
-      ap length s.grown ∙ length-append before (request ∷ [])
-  step_longer true position outputs request before after s =
+  step_longer : (again : Bool) (position : ℕ) (outputs : List (List ℕ)) (batch : Batch) (before after : List (List ℕ))
+      → IsBatchStep meaning before batch (Told again position outputs) after
+      → length after ≡ length before + new_requests_of (Told again position outputs)
+  step_longer false position outputs batch before after s =
+      ap length s.grown ∙ length-append before (members_of batch)
+      ∙ ap (λ (n : ℕ). length before + n) (sym (ap length s.said
+      ∙ length-outputs_from meaning (state_after meaning before) (members_of batch)))
+  step_longer true position outputs batch before after s =
       let same : length after ≡ length before = ap length s.2 in omega (arith, same)
 
   run_longer : (told : List ServedCall) (before after : List (List ℕ)) → CallsRunOver meaning before told after
-      → length after ≡ length before + new_replies (told_replies told)
+      → length after ≡ length before + new_requests_told (told_replies told)
   run_longer [] before after run = let same : length after ≡ length before = ap length run in omega (arith, same)
   run_longer (c ∷ told) before after run =
-      let first = step_longer c.answer.again _ _ c.line before run.0 run.1 in
+      let first = step_longer c.answer.again _ _ (One c.line) before run.0 run.1 in
       let rest = run_longer told run.0 after run.2 in
       omega (arith, first, rest)
 
   session_longer : {sent : List ℕ} (told : List ServedCall) (hand : List ℕ → Type 0) (result : Result Unit SessionFault)
       (before after : List (List ℕ)) → SessionSteps meaning before told hand sent result after
-      → IsLonger before after (new_replies (told_replies told)) (session_stop result)
+      → IsLonger before after (new_requests_told (told_replies told)) (session_stop result)
   session_longer told hand result before after s =
       let run = run_longer told before s.between s.run in
       let more : IsLonger s.between after 0 (session_stop result) = elim s.committed [
@@ -91,33 +108,33 @@ module _ (meaning : Meaning) where
       ] in
       record { kept = more.kept; few = more.few; listed = omega (arith, run, more.listed) }
 
-  call_longer : (request : List ℕ) (gives : Result Answer Refusal) (before after : List (List ℕ))
-      → CallSteps meaning before request gives after → IsLonger before after (new_replies (call_replies gives)) (call_stop gives)
-  call_longer request (Ok answer) before after s =
-      let more = step_longer answer.again _ _ request before after s in
+  call_longer : (batch : Batch) (gives : Result BatchAnswer Refusal) (before after : List (List ℕ))
+      → CallSteps meaning before batch gives after → IsLonger before after (new_requests_told (call_replies gives)) (call_hand batch gives)
+  call_longer batch (Ok answer) before after s =
+      let more = step_longer answer.again _ answer.outputs batch before after s in
       record { kept = 0; few = omega arith; listed = omega (arith, more) }
-  call_longer request (Err why) before after (inl same) = longer_none before after (refusal_stop why) same
-  call_longer request (Err why) before after (inr untold) =
-      longer_one before after request (refusal_stop why) (refused_untold (fault_of why) untold.0) untold.1
+  call_longer batch (Err why) before after (inl same) = longer_none before after (hand_by (fault_of why) batch) same
+  call_longer batch (Err why) before after (inr untold) =
+      longer_batch before after batch (hand_by (fault_of why) batch) (refused_hand (fault_of why) batch untold.0) untold.1
 
 module _ (variant : Variant) (meaning : Meaning) where
   part_longer : (old : Standing) (part : LifePart) (new : Standing) (f : PartLeads variant meaning old part new)
       (before after : List (List ℕ)) → PartSteps variant meaning old part new f before after
-      → IsLonger before after (new_replies (part_replies variant meaning old part new f)) (part_stop part)
+      → IsLonger before after (new_requests_told (part_replies variant meaning old part new f)) (part_hand part)
   part_longer old (Holds p) new f before after s = session_longer meaning (served_calls_of f) (IsInHandOf f) p.result before after s
-  part_longer old (Does (Calls c)) new f before after s = call_longer meaning c.request c.gives before after s
+  part_longer old (Does (Calls c)) new f before after s = call_longer meaning c.batch c.gives before after s
   part_longer old (Does (Extends values)) new f before after s = longer_none before after 0 s
   part_longer old (Does LosesPower) new f before after s = longer_none before after 0 s
   part_longer old (Does (Checkpoints said)) new f before after s = longer_none before after (checkpoint_stop said) s
 
   pub life_longer : (stages : List LifeStage) (start : Standing) (f : IsLife variant meaning start stages) (before after : List (List ℕ))
       → LifeFollows variant meaning start stages f before after
-      → IsLonger before after (new_replies (life_replies variant meaning start stages f)) (stops_in stages)
+      → IsLonger before after (new_requests_told (life_replies variant meaning start stages f)) (hands_in stages)
   life_longer [] start f before after s = longer_none before after 0 s
   life_longer (stage ∷ stages) start f before after s =
       let here = part_longer start stage.part stage.after f.0 before s.0 s.1 in
       let later = life_longer stages stage.after f.1 s.0 after s.2 in
-      let sum = new_append (part_replies variant meaning start stage.part stage.after f.0)
+      let sum = told_append (part_replies variant meaning start stage.part stage.after f.0)
       (life_replies variant meaning stage.after stages f.1) in
       record {
         kept = here.kept + later.kept;

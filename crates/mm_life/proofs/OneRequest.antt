@@ -36,7 +36,7 @@ use Rattle.mm_base.specs.declared.replay_fault.ReplayFault.TheVariants.{WriteFau
 use Rattle.mm_digest.specs.Messages.{start_message}
 use Rattle.mm_digest.specs.declared.variant.Variant.{Variant}
 use Rattle.mm_digest.specs.declared.variant.Variant.TheVariants.{Basic}
-use Rattle.mm_module.specs.Batch.{Batch, One}
+use Rattle.mm_module.specs.Batch.{Batch, One, normal_batch}
 use Rattle.mm_module.specs.CounterLaws.{counter_is_lawful}
 use Rattle.mm_module.specs.CounterTable.{counter}
 use Rattle.mm_module.specs.Meaning.{Meaning}
@@ -73,7 +73,7 @@ use Rattle.mm_host.specs.Sessions.{BytesBeginWith, IsSession, ServedCall, Serves
 use Rattle.mm_host.specs.Sessions.{served_lines}
 use Rattle.mm_host.specs.declared.fault.SessionFault.{SessionFault}
 use Rattle.mm_host.specs.declared.fault.SessionFault.TheVariants.{Host, Lines}
-use Rattle.mm_life.specs.Deeds.{LifeCall}
+use Rattle.mm_life.specs.Deeds.{LifeCall, call_of}
 use Rattle.mm_life.specs.Laws.{OffersSlots, SessionsOfferSlots}
 use Rattle.mm_life.specs.OneRequest.{OneRequestMeetsPremises, add_five}
 use Rattle.mm_life.specs.Premises.{IsFirstUntagged, call_messages}
@@ -96,19 +96,21 @@ first_none variant meaning (Err why) middle new came g e = refl
 
 -- no call was made, or one, for this request
 abbrev AsksOnce : List ℕ → List LifeCall → Type 0
-AsksOnce request calls = (calls ≡ []) ⊎ ((c : LifeCall) × (calls ≡ c ∷ []) × (c.request ≡ request))
+AsksOnce request calls = (calls ≡ []) ⊎ ((c : LifeCall) × (calls ≡ c ∷ []) × (c.batch ≡ One request))
 
 -- no call was made for the line in hand, or one
 abbrev AsksInHand : List ℕ → List LifeCall → Type 0
 AsksInHand more calls =
-    (calls ≡ []) ⊎ ((c : LifeCall) × (calls ≡ c ∷ []) × (held : List ℕ) × BytesBeginWith more c.request held)
+    (calls ≡ [])
+    ⊎ ((c : LifeCall) × (calls ≡ c ∷ []) × (request : List ℕ) × (c.batch ≡ One request) × (held : List ℕ)
+    × BytesBeginWith more request held)
 
 module _ (variant : Variant) (meaning : Meaning) where
   record_asks : (recorded : Result Unit StoreFault) (middle new : HostStanding) (last : Resumed) (line : List ℕ)
       (came : Result Resumed HostFault) (g : HostGoesAfterRecord variant meaning recorded middle new last line came)
       (more held : List ℕ) → BytesBeginWith more line held
       → AsksInHand more (recorded_calls variant meaning recorded middle new last line came g)
-  record_asks (Ok it) middle new last line came g more held b = inr (_, refl, held, b)
+  record_asks (Ok it) middle new last line came g more held b = inr (_, refl, line, refl, held, b)
   record_asks (Err why) middle new last line came g more held b = inl refl
 
   last_asks : (number : ℕ) (from : SessionPlace) (new : HostStanding) (left : Option (List ℕ)) (bytes sent : List ℕ)
@@ -166,8 +168,8 @@ none_behind a rest e = absurd (cc)
 lines_ask : (line offer : List ℕ) (calls : List ServedCall) (last : List LifeCall) (more behind : List ℕ)
     → line ∷ [] ≡ served_lines calls ++ lines_of (more ++ behind) → AsksInHand more last → AsksOnce line (told_calls offer calls ++ last)
 lines_ask line offer [] last more behind e (inl none) = inl none
-lines_ask line offer [] last more behind e (inr (c, is, held, b)) =
-    inr (c, is, (one_alone line c.request (lines_of (held ++ behind)) (e ∙ line_in_hand more c.request held behind b)).0)
+lines_ask line offer [] last more behind e (inr (c, is, request, one, held, b)) =
+    inr (c, is, one ∙ ap One (one_alone line request (lines_of (held ++ behind)) (e ∙ line_in_hand more request held behind b)).0)
 lines_ask line offer (c ∷ calls) last more behind e hand =
     let both = one_alone line c.line (served_lines calls ++ lines_of (more ++ behind)) e in
     lines_behind calls both.0 both.1 hand
@@ -175,10 +177,10 @@ lines_ask line offer (c ∷ calls) last more behind e hand =
     lines_behind : (calls : List ServedCall) → c.line ≡ line → served_lines calls ++ lines_of (more ++ behind) ≡ []
         → AsksInHand more last → AsksOnce line (told_calls offer (c ∷ calls) ++ last)
     lines_behind [] is none (inl nothing) =
-        let made : LifeCall = record { offer = offer; request = c.line; gives = Ok c.answer } in
-        inr (made, ap (λ (xs : List LifeCall). made ∷ xs) nothing, is)
-    lines_behind [] is none (inr (d, made, held, b)) =
-        absurd (none_behind d.request (lines_of (held ++ behind)) (sym none ∙ line_in_hand more d.request held behind b))
+        let made : LifeCall = call_of offer c.line (Ok c.answer) in
+        inr (made, ap (λ (xs : List LifeCall). made ∷ xs) nothing, ap One is)
+    lines_behind [] is none (inr (d, made, request, one, held, b)) =
+        absurd (none_behind request (lines_of (held ++ behind)) (sym none ∙ line_in_hand more request held behind b))
     lines_behind (next ∷ calls) is none hand =
         absurd (none_behind next.line (served_lines calls ++ lines_of (more ++ behind)) (sym none))
 
@@ -271,9 +273,9 @@ module _ (i : Instance) (clear : IsClear (run_messages i one_ask)) (y : History)
       subst (λ (cs : List LifeCall). AreMessagesIn (call_messages i (cs ++ [])) all) (sym none) (start_heard, tt)
   calls_heard calls (inr (c, is, request)) offered =
       let offer : c.offer ≡ issued = subst (λ (cs : List LifeCall). IsFirstOffered issued cs) is offered in
-      let of_call : AreMessagesIn (right_messages i (One c.request) (right_content i c.offer)) all = rw (request, offer) heard in
+      let of_call : AreMessagesIn (right_messages i (normal_batch c.batch) (right_content i c.offer)) all = rw (request, offer) heard in
       subst (λ (cs : List LifeCall). AreMessagesIn (call_messages i (cs ++ [])) all) (sym is)
-      (start_heard, each_append (Contains all) (right_messages i (One c.request) (right_content i c.offer)) [] of_call tt)
+      (start_heard, each_append (Contains all) (right_messages i (normal_batch c.batch) (right_content i c.offer)) [] of_call tt)
 
   untagged_by : (calls : List LifeCall) → IsFirstOffered issued calls → IsFirstUntagged i (issued ∷ []) calls
   untagged_by [] offered = tt

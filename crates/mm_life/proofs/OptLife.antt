@@ -9,7 +9,7 @@ use Rattle.mm_digest.specs.declared.variant.Variant.TheVariants.{Opt}
 use Rattle.mm_seal.specs.Snapshot.{Content}
 use Rattle.mm_platform.specs.Standing.{Item, Standing, foreign_item}
 use Rattle.mm_platform.specs.Steps.{items_beside}
-use Rattle.mm_module.specs.Batch.{Batch}
+use Rattle.mm_module.specs.Batch.{Batch, One, normal_batch}
 use Rattle.mm_module.specs.Meaning.{IsLawful, Meaning}
 use Rattle.mm_model.specs.FormLaws.{reads_zero}
 use Rattle.mm_model.specs.History.{Foreign, History, Power, Value, first_history, history_after, register_value_of}
@@ -21,7 +21,7 @@ use Rattle.mm_model.specs.Moves.{Digests, digests_of}
 use Rattle.mm_model.specs.Places.{NamesPosition}
 use Rattle.mm_model.specs.Sound.{IsSound}
 use Rattle.mm_model.specs.Standing.{IsGenuine, StandsFor, cell_of, issued_bytes}
-use Rattle.mm_model.specs.declared.answer.Answer.{Answer}
+use Rattle.mm_model.specs.declared.answer.BatchAnswer.{BatchAnswer}
 use Rattle.mm_model.specs.declared.refusal.Refusal.{Refusal}
 use Rattle.mm_model.specs.declared.refusal.Refusal.TheVariants.{Device, Memory}
 use Rattle.mm_call.specs.Untouched.{batch_result_of}
@@ -29,16 +29,26 @@ use Rattle.mm_model.proofs.Above.{opt_issued}
 use Rattle.mm_call.specs.CallPremises.{IsWithin, messages_of_moves}
 use Rattle.mm_call.specs.Levels.{state_after_moves, digest_level, list_level}
 use Rattle.mm_call.specs.OfferLaws.{issued_once, opt_content}
-use Rattle.mm_call.specs.Premises.{AreShown}
-use Rattle.mm_call.specs.Standing.{StandsAt}
+use Rattle.mm_call.specs.CallOnCourse.{IsCallOnCourse}
+use Rattle.mm_call.specs.CallOutcome.{call_outcome, state_seen}
+use Rattle.mm_call.specs.CallFinding.{finding_at}
+use Rattle.mm_call.specs.CallFindingWords.{finding_unless_wanting, is_fresh}
+use Rattle.mm_call.specs.Courses.{has_close, walk}
+use Rattle.mm_call.specs.AlongLaws.{opt_closes}
+use Rattle.mm_call.specs.WalkLaws.{asks}
+use Rattle.mm_model.specs.Steps.{DeviceStep}
+use Rattle.mm_call.specs.Premises.{AreAsked, AreShown}
+use Rattle.mm_call.specs.Standing.{StandsAt, items_after_moves}
 use Rattle.mm_call.specs.ShownItems.{foreign_items, standing_items}
 use Rattle.mm_call.specs.TrailLaws.{foreign_made, foreign_values, reads_beside, register_of_items, with_register}
 use Rattle.mm_call.specs.WalkLaws.{history_with_values, taking_is}
 use Rattle.mm_call.proofs.Above.{agrees_is, bare, counted_open, foreign_agrees, foreign_all, holds_made, holds_moved, holds_open, is_agrees}
+use Rattle.mm_call.proofs.Above.{flag_kept, pushed_open}
 use Rattle.mm_call.proofs.Above.{names_alike, power_fine, stands_at, stands_for, within_items, within_of}
 use Rattle.mm_opt.specs.CheckpointOnCourse.{IsCheckpointOnCourse}
 use Rattle.mm_callers.specs.Closing.{MayClose}
 use Rattle.mm_callers.proofs.Above.{check_goes_on, check_leaves}
+use Rattle.mm_recovery.proofs.Above.{BatchMet, opt_batch_met, opt_batch_met_idle}
 use Rattle.mm_host.proofs.Above.{Reaches, ShowsAt, foreign_of, messages_looked, opt_laws}
 use Rattle.mm_recovery.specs.FirstStart.{first_history_on}
 use Rattle.mm_life.specs.Below.{CheckpointRefusal, Checkpointed}
@@ -203,6 +213,28 @@ module _ (meaning : Meaning) (key barrier : List ℕ) (all others : List (List �
   stays y old LosesPower new quiet seen f stands within = stays_emptied y old new f.0 f.1 stands within
   stays y old (Checkpoints said) new quiet seen f stands within = stays_checked y old new said f.goes seen stands within
 
+-- from a set flag a call for a batch leaves in front what the register had shown, and the flag stays set
+batch_reach : (meaning : Meaning) (key barrier : List ℕ) (old new : Standing) (offer : List ℕ) (batch : Batch)
+    (gives : Result BatchAnswer Refusal) → IsCallOnCourse Opt meaning old new offer batch gives
+    → Reaches Opt (opt_instance meaning key barrier) old new
+batch_reach meaning key barrier old new offer batch gives c = λ d s f items known.
+    let i : Instance = opt_instance meaning key barrier in
+    let b : Batch = normal_batch batch in
+    let o = call_outcome i (digest_level i) d c.course offer b in
+    let g = c.goes key barrier d s in
+    let p = pushed_open meaning key barrier d c.course offer b f in
+    let fresh : Bool = is_fresh
+    (finding_unless_wanting (finding_at i (digest_level i) (state_seen i (digest_level i) d c.course) b offer) c.course.lacks) in
+    let quiet : has_close o.moves ≡ false = ap (λ (st : List DeviceStep). has_close (walk c.course.fates 1 st).moves) (asks d.flag fresh b)
+    ∙ opt_closes c.course.fates d.flag fresh b in
+    record {
+      digests = state_after_moves (digest_level i) d o.moves;
+      stands = g.stands;
+      flag = flag_kept meaning key barrier o.moves d f quiet;
+      more = p.more;
+      shows = g.items ∙ ap (option_map (items_after_moves i d o.moves)) known ∙ ap (λ (xs : List Item). Some xs) (p.are items);
+    }
+
 -- a part is still where it is idle
 abbrev IsStill : Standing → List LifeCall → Type 0
 IsStill old calls = is_idle old calls ≡ true
@@ -217,7 +249,7 @@ few_still old (c ∷ []) e = inr (c, refl)
 few_still old (c ∷ next ∷ calls) e = let clash : false ≡ true = (idle_parts (has_open_segment old) false e).1 in absurd (cc)
 
 -- an idle part asks nothing new
-old_not_new : (gives : Result Answer Refusal) → is_old gives ≡ true → IsNotNew (batch_result_of gives)
+old_not_new : (gives : Result BatchAnswer Refusal) → is_old gives ≡ true → IsNotNew gives
 old_not_new (Ok answer) e = e
 old_not_new (Err Memory) e = absurd (cc)
 old_not_new (Err (Device fault)) e = absurd (cc)
@@ -231,6 +263,22 @@ module _ (meaning : Meaning) (lawful : IsLawful meaning) (key barrier : List ℕ
   is_shut y old s shut =
       sym (open_told old y.is_open (record { cell = cell_of O y; is_cell = s.spells; tells = s.cell; shows = refl })) ∙ shut
 
+  -- a call for a batch
+  batch_met_in : (all others : List (List ℕ)) (asked : List Batch) → IsClear all → (y : History) (old new : Standing) (c : LifeCall)
+      → IsCallOnCourse Opt meaning old new c.offer c.batch c.gives → StandsFor O old y
+      → AreAsked all others asked O y c.offer (normal_batch c.batch) → IsSeen all others old (Does (Calls c)) new ⊎ IsStill old (c ∷ [])
+      → BatchMet all others asked O y new c.offer (normal_batch c.batch) c.gives
+  batch_met_in all others asked clear y old new c goes stands asks (inl seen) =
+      let shows = shows_by meaning key barrier all others asked clear y old (Does (Calls c)) new y.is_open refl seen stands
+      (batch_reach meaning key barrier old new c.offer c.batch c.gives goes) (λ d s. (_, (goes.goes key barrier d s).stands)) in
+      opt_batch_met meaning lawful key barrier all others asked y old new c.offer c.batch c.gives goes stands asks shows.items shows.more
+      shows.known shows.ends (λ busy. shows.shown_are)
+  batch_met_in all others asked clear y old new c goes stands asks (inr still) =
+      let parts = idle_parts _ _ still in
+      opt_batch_met_idle meaning lawful key barrier all others asked y old new c.offer c.batch c.gives goes stands asks
+      (is_idle_where meaning key barrier all others asked y old new c.offer c.batch c.gives goes stands asks
+      (is_shut y old stands parts.0) (old_not_new c.gives parts.1))
+
   pub opt_life : (all others : List (List ℕ)) (asked : List Batch) → IsClear all → AreNoGuards barrier others asked
       → LifeLaws all others asked O (IsSeen all others) IsStill
   opt_life all others asked clear apart = record {
@@ -241,10 +289,11 @@ module _ (meaning : Meaning) (lawful : IsLawful meaning) (key barrier : List ℕ
     stays = λ y old deed new quiet seen f stands within.
         stays meaning key barrier all others asked clear y old deed new quiet (λ _. seen) f stands within;
     few = few_still;
-    idles = λ y old new c still makes.
+    idles = λ y old new offer request gives still makes.
         let parts = idle_parts _ _ still in
-        is_idle_where meaning key barrier all others asked y old new c.offer c.request (batch_result_of c.gives) makes.goes makes.stands
-        makes.asks (is_shut y old makes.stands parts.0) (old_not_new c.gives parts.1);
+        is_idle_where meaning key barrier all others asked y old new offer (One request) (batch_result_of gives) makes.goes makes.stands
+        makes.asks (is_shut y old makes.stands parts.0) (old_not_new (batch_result_of gives) parts.1);
+    met = λ y old new c goes stands asks seen. batch_met_in all others asked clear y old new c goes stands asks seen;
     stays_still = λ y old deed new quiet still f stands within.
         stays meaning key barrier all others asked clear y old deed new quiet
         (λ e. let shut = is_shut y old stands (idle_parts _ _ still).0 in

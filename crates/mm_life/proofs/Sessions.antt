@@ -5,7 +5,7 @@ use Rattle.std.proofs.lemmas.Grind.{flat_map-append}
 use Rattle.mm_seal.specs.Snapshot.{Content}
 use Rattle.mm_digest.specs.declared.variant.Variant.{Variant}
 use Rattle.mm_platform.specs.Standing.{Standing}
-use Rattle.mm_module.specs.Batch.{Batch, One}
+use Rattle.mm_module.specs.Batch.{Batch, One, normal_batch}
 use Rattle.mm_module.specs.Meaning.{Meaning}
 use Rattle.mm_model.specs.History.{History, requests_of}
 use Rattle.mm_model.specs.Instance.{Instance}
@@ -29,11 +29,11 @@ use Rattle.mm_host.specs.Continuation.{CallsRunOver}
 use Rattle.mm_host.specs.Sessions.{ServedCall}
 use Rattle.mm_host.specs.declared.fault.SessionFault.{SessionFault}
 use Rattle.mm_host.proofs.Above.{CallsInTurn, Laws, Makes, Reaches, Shows, calls_reach, line_committed, only_by, pending_for, reach_same, call_steps, same_requests, told_in_part}
-use Rattle.mm_life.specs.Deeds.{LifeCall}
+use Rattle.mm_life.specs.Deeds.{LifeCall, call_of}
 use Rattle.mm_life.specs.OneList.{IsLastJudged, SessionSteps}
 use Rattle.mm_life.specs.Premises.{issued_snapshot_in, snapshots_of}
 use Rattle.mm_life.specs.SessionCalls.{IsFirstOffered, told_calls}
-use Rattle.mm_life.proofs.Chains.{Chain, Ends, call_of, rests, stops}
+use Rattle.mm_life.proofs.Chains.{Chain, Ends, rests, stops}
 use Rattle.mm_life.proofs.OneCall.{AreListed, all_genuine, answer_steps, issue_genuine, issues_genuine, makes_call, met_judged}
 
 -- the first of these calls offers what is genuine
@@ -55,14 +55,15 @@ pub listed_rest : (all : List (List ℕ)) (asked : List Batch) (i : Instance) (c
     → AreListed all asked i (c ∷ calls)
     → AreListed all asked i calls
 listed_rest all asked i c calls a = record {
-  messages = each_right (Contains all) (right_messages i (One c.request) (right_content i c.offer)) _ a.messages;
+  messages = each_right (Contains all) (right_messages i (normal_batch c.batch) (right_content i c.offer)) _ a.messages;
   batches = a.batches.1;
 }
 
 pub listed_first : (all : List (List ℕ)) (asked : List Batch) (i : Instance) (c : LifeCall) (calls : List LifeCall)
     → AreListed all asked i (c ∷ calls)
-    → AreMessagesIn (right_messages i (One c.request) (right_content i c.offer)) all
-listed_first all asked i c calls a = each_left (Contains all) (right_messages i (One c.request) (right_content i c.offer)) _ a.messages
+    → AreMessagesIn (right_messages i (normal_batch c.batch) (right_content i c.offer)) all
+listed_first all asked i c calls a =
+    each_left (Contains all) (right_messages i (normal_batch c.batch) (right_content i c.offer)) _ a.messages
 
 -- the call behind those that were told offers the last answer's snapshot
 pub offered_by : {variant : Variant} {meaning : Meaning} {at final : Standing} {offer : List ℕ} {hand : List ℕ → Type 0}
@@ -239,7 +240,7 @@ module _ {all others : List (List ℕ)} {asked : List Batch} {i : Instance} {fin
           within = m.within;
           names = λ content n. m.names content (r.names content n);
           issued = both_issued m.after m.names
-              (rw is (each_append (IsGenuine i m.after) (issued_snapshot_in gives) [] given tt));
+              (rw is (each_append (IsGenuine i m.after) (issued_snapshot_in (batch_result_of gives)) [] given tt));
           steps = record {
             between = requests_of r.after.batches;
             run = r.run;
@@ -269,17 +270,17 @@ module _ {all others : List (List ℕ)} {asked : List Batch} {i : Instance} {fin
       (shows (calls_reach laws offer before k.at told k.calls reaches) (chain_leads i leads k))) result k.ends
 
   -- a session that made at most one call, which minds no register
-  abbrev pub AreIdle : History → Standing → List LifeCall → Type 0
-  AreIdle y before calls =
-      (c : LifeCall) → calls ≡ c ∷ [] → (new : Standing)
-      → Makes all others asked i y before new c.offer (pending_for c.request) (batch_result_of c.gives) → IsIdle i y c.offer (One c.request)
+  abbrev pub AreIdle : History → Standing → List ℕ → List LifeCall → Type 0
+  AreIdle y before offer calls =
+      (request : List ℕ) (gives : Result Answer Refusal) → calls ≡ call_of offer request gives ∷ [] → (new : Standing)
+      → Makes all others asked i y before new offer (pending_for request) (batch_result_of gives) → IsIdle i y offer (One request)
 
   pub chain_idles : {sent : List ℕ} (y : History) (before : Standing) (offer : List ℕ) (told : List ServedCall) (hand : List ℕ → Type 0)
       (untold : List LifeCall) (result : Result Unit SessionFault)
       → Chain i.variant i.meaning offer before final told hand sent untold result → StandsFor i before y → IsWithin all others asked i y
       → IsFirstGenuine i y (told_calls offer told ++ untold) → AreListed all asked i (told_calls offer told ++ untold)
       → (let calls = told_calls offer told ++ untold in (calls ≡ []) ⊎ ((c : LifeCall) × (calls ≡ c ∷ [])))
-      → AreIdle y before (told_calls offer told ++ untold)
+      → AreIdle y before offer (told_calls offer told ++ untold)
       → Lived y final (told_calls offer told ++ untold)
       (λ after. SessionSteps i.meaning (requests_of y.batches) told hand sent result after)
   chain_idles {sent} y before offer [] hand untold result k stands within first listed few idle =
@@ -288,7 +289,7 @@ module _ {all others : List (List ℕ)} {asked : List Batch} {i : Instance} {fin
         stands = rw k.calls stands;
         within = within;
         names = λ content n. n;
-        may = λ request gives one m. inr (idle (call_of offer request gives) one final
+        may = λ request gives one m. inr (idle request gives one final
             (subst (λ (x : Standing). Makes all others asked i y x final offer (pending_for request) (batch_result_of gives)) k.calls m));
         run = refl;
         issued = tt;
@@ -304,7 +305,7 @@ module _ {all others : List (List ℕ)} {asked : List Batch} {i : Instance} {fin
       first listed.batches.0
       (listed_first all asked i made untold listed) in
       let m = laws.idle y before k.calls.0 offer (pending_for c.line) (Ok (batch_answer_of c.answer)) makes
-      (idle made one k.calls.0 makes) in
+      (idle c.line (Ok c.answer) one k.calls.0 makes) in
       ended y offer k.at (c ∷ []) hand sent untold (record {
         after = m.after;
         stands = rw k.calls.2 m.stands;

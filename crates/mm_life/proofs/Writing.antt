@@ -16,9 +16,10 @@ use Rattle.mm_life.specs.SessionCalls.{first_bytes, served_calls_of}
 use Rattle.mm_life.specs.Stages.{Does, Holds, IsLife, LifePart, PartLeads, Program, LifeStage}
 use Rattle.mm_life.specs.LifeWrites.{BasicLivesWriteOnce, OptLivesWriteOnce, PartWrites, WritesOnceEach, new_replies, part_stop}
 use Rattle.mm_life.specs.LifeWrites.{part_turns, part_turns_in_hand, segment_turns, session_stop, stops_in, turns_in_hand}
+use Rattle.mm_life.proofs.BatchCounts.{basic_batch_counts, opt_batch_counts}
 use Rattle.mm_life.proofs.Chains.{session_chain}
 use Rattle.mm_life.proofs.Standings.{part_stands}
-use Rattle.mm_life.proofs.CallCounts.{basic_counts, call_writes, CallsWrite, ends_writes, opt_counts, told_write}
+use Rattle.mm_life.proofs.CallCounts.{basic_counts, CallsWrite, ends_writes, opt_counts, told_write}
 use Rattle.mm_life.proofs.ClosingCounts.{basic_checked, opt_checked}
 use Rattle.mm_life.proofs.Longer.{life_longer, new_append}
 
@@ -68,7 +69,7 @@ module _ (meaning : Meaning) (key : List ℕ) where
       let c = basic_counts old new _ _ (session_writes Basic meaning old new p f) in
       record { in_hand = c.in_hand; few = c.few; writes = c.writes }
   basic_part old (Does (Calls call)) new f d s =
-      let c = basic_counts old new _ _ (call_writes Basic meaning old new call.offer call.request call.gives f) in
+      let c = basic_batch_counts meaning key key old new call.offer call.batch call.gives f.goes d s in
       record { in_hand = c.in_hand; few = c.few; writes = c.writes }
   basic_part old (Does (Extends values)) new f d s = still_counts old new values
   basic_part old (Does LosesPower) new f d s = lost_counts old new
@@ -95,8 +96,7 @@ module _ (meaning : Meaning) (key barrier : List ℕ) where
       let c = opt_counts old new _ _ (session_writes Opt meaning old new p f) d.flag before in
       record { in_hand = c.in_hand; few = c.few; writes = c.writes }
   opt_part old (Does (Calls call)) new f d s =
-      let before : TellsFlag old d.flag = record { cell = _; is_cell = s.spells; tells = s.cell; shows = refl } in
-      let c = opt_counts old new _ _ (call_writes Opt meaning old new call.offer call.request call.gives f) d.flag before in
+      let c = opt_batch_counts meaning key barrier old new call.offer call.batch call.gives f.goes d s in
       record { in_hand = c.in_hand; few = c.few; writes = c.writes }
   opt_part old (Does (Extends values)) new f d s = still_counts old new values
   opt_part old (Does LosesPower) new f d s = lost_counts old new

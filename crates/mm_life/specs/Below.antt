@@ -7,7 +7,7 @@ pub use Rattle.mm_seal.specs.Snapshot.{Content}
 pub use Rattle.mm_platform.specs.Standing.{Item, Standing, item_values}
 pub use Rattle.mm_platform.specs.Steps.{items_beside}
 pub use Rattle.mm_platform.specs.declared.fault.StepFault.{StepFault}
-pub use Rattle.mm_module.specs.Batch.{Batch, One}
+pub use Rattle.mm_module.specs.Batch.{Batch, One, members_of, normal_batch, size_of}
 pub use Rattle.mm_module.specs.Meaning.{IsLawful, Meaning}
 pub use Rattle.mm_listing.specs.Tellings.{AreSaid}
 pub use Rattle.mm_modules.specs.Modules.{meaning_of}
@@ -20,10 +20,14 @@ pub use Rattle.mm_model.specs.Life.{Lost, Spoiled, life_of}
 pub use Rattle.mm_model.specs.Messages.{AreNoGuards, IsClear, AreMessagesIn, register_trail}
 pub use Rattle.mm_model.specs.Places.{NamesPosition}
 pub use Rattle.mm_model.specs.Standing.{IsGenuine, IsRight, StandsFor, issued_bytes}
+pub use Rattle.mm_model.specs.Fit.{IsFit}
 pub use Rattle.mm_model.specs.declared.answer.Answer.{Answer}
+pub use Rattle.mm_model.specs.declared.answer.BatchAnswer.{BatchAnswer}
 pub use Rattle.mm_model.specs.declared.refusal.Refusal.{Refusal}
 pub use Rattle.mm_model.specs.declared.refusal.Refusal.TheVariants.{Memory}
+pub use Rattle.mm_call.specs.CallOnCourse.{IsCallOnCourse}
 pub use Rattle.mm_call.specs.CallPremises.{IsWithin, right_messages}
+pub use Rattle.mm_call.specs.Untouched.{batch_answer_of, batch_result_of}
 pub use Rattle.mm_call.specs.CallFinding.{finding_at, right_content}
 pub use Rattle.mm_call.specs.Levels.{list_level}
 pub use Rattle.mm_call.specs.Refusals.{fault_of}

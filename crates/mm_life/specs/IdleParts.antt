@@ -2,7 +2,7 @@
 use Rattle.std.specs.Prelude.{◌&&◌, ℕ, Bool, true, false, not, List, [], ◌∷◌, drop, is_some, take, Result, Ok, Err}
 use Rattle.std.specs.Option.{option_map_or}
 use Rattle.std.specs.Str.{bytes_eq}
-use Rattle.mm_life.specs.Below.{Answer, Memory, Refusal, Standing, fault_of}
+use Rattle.mm_life.specs.Below.{BatchAnswer, Memory, Refusal, Standing, fault_of}
 use Rattle.mm_life.specs.Deeds.{LifeCall}
 
 -- whether a segment is open, by the flag in the cell's bytes
@@ -14,7 +14,7 @@ has_open_segment standing = bytes_eq (option_map_or flag_in standing.cell []) (1
 
 -- whether a call was told as a repeat, or refused as its offer is: neither for a device's fault nor
 -- for want of memory
-abbrev pub is_old : Result Answer Refusal → Bool
+abbrev pub is_old : Result BatchAnswer Refusal → Bool
 is_old (Ok answer) = answer.again
 is_old (Err Memory) = false
 is_old (Err why) = not (is_some (fault_of why))

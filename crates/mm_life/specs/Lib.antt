@@ -13,4 +13,5 @@ pub mod OneStore
 pub mod LifeWrites
 pub mod OneRequest
 pub mod PartsElsewhere
+pub mod BatchDeeds
 pub mod KilledPrograms

@@ -8,7 +8,7 @@ use Rattle.mm_schedule.specs.declared.reply.Reply.TheVariants.{Told}
 use Rattle.mm_call.specs.Standing.{count_after_more}
 use Rattle.mm_platform.specs.declared.fault.StepFault.{StepFault}
 use Rattle.mm_recovery.specs.CellWrites.{is_open_after, new_requests_by, openings}
-use Rattle.mm_life.specs.Below.{Basic, Opt, Standing, Meaning, History, StandsFor, basic_instance, opt_instance, Answer, Refusal, fault_of}
+use Rattle.mm_life.specs.Below.{Basic, Opt, Batch, size_of, Standing, Meaning, History, StandsFor, basic_instance, opt_instance, BatchAnswer, Refusal, fault_of}
 use Rattle.mm_life.specs.Below.{CheckpointRefusal, Checkpointed, HostFault, Reply, SessionFault}
 use Rattle.mm_life.specs.Deeds.{Calls, Checkpoints, Extends, LosesPower}
 use Rattle.mm_life.specs.IdleParts.{has_open_segment}
@@ -48,7 +48,7 @@ session_stop (Err (Host fault)) = host_stop fault
 session_stop (Err (Lines WriteFault)) = 1
 session_stop _ = 0
 
-abbrev pub call_stop : Result Answer Refusal → ℕ
+abbrev pub call_stop : Result BatchAnswer Refusal → ℕ
 call_stop (Ok answer) = 0
 call_stop (Err why) = refusal_stop why
 
@@ -66,7 +66,24 @@ abbrev pub stops_in : List LifeStage → ℕ
 stops_in [] = 0
 stops_in (stage ∷ stages) = part_stop stage.part + stops_in stages
 
--- the requests that are told for the first time
+-- The requests that may be in hand behind a stop: of a session one, and of a call its batch, whole.
+abbrev pub hand_by : Option StepFault → Batch → ℕ
+hand_by None batch = 0
+hand_by (Some fault) batch = size_of batch
+
+abbrev pub call_hand : Batch → Result BatchAnswer Refusal → ℕ
+call_hand batch (Ok answer) = 0
+call_hand batch (Err why) = hand_by (fault_of why) batch
+
+abbrev pub part_hand : LifePart → ℕ
+part_hand (Does (Calls c)) = call_hand c.batch c.gives
+part_hand part = part_stop part
+
+abbrev pub hands_in : List LifeStage → ℕ
+hands_in [] = 0
+hands_in (stage ∷ stages) = part_hand stage.part + hands_in stages
+
+-- the replies that tell a batch, or a request, for the first time; and the requests that they tell
 abbrev pub new_reply : Reply → ℕ
 new_reply (Told again before outputs) = new_requests_by again
 new_reply _ = 0
@@ -74,6 +91,14 @@ new_reply _ = 0
 abbrev pub new_replies : List Reply → ℕ
 new_replies [] = 0
 new_replies (reply ∷ replies) = new_reply reply + new_replies replies
+
+abbrev pub new_requests_of : Reply → ℕ
+new_requests_of (Told false before outputs) = length outputs
+new_requests_of _ = 0
+
+abbrev pub new_requests_told : List Reply → ℕ
+new_requests_told [] = 0
+new_requests_told (reply ∷ replies) = new_requests_of reply + new_requests_told replies
 
 -- the segments that a checkpoint closed, where it didn't stop: it leaves another flag
 abbrev pub turns_between : Bool → Bool → ℕ
@@ -133,15 +158,17 @@ pub record WritesOnceEach (start : Standing) (stages : List LifeStage) (due most
   pub few : in_hand ≤ most
   pub writes : LifeWrites start stages (due + in_hand)
 
--- In Basic it is due for each request that was told for the first time, and in hand at each stop.
--- Those are on the list, and besides them at most the one in hand at each stop.
+-- In Basic it is due for each batch that was told for the first time, where one request is one, and
+-- in hand at each stop. The requests of those are on the list, and besides them at most those in
+-- hand at each stop.
 pub record BasicWrites (meaning : Meaning) (start : Standing) (stages : List LifeStage)
     (f : IsLife Basic meaning start stages) (requests : List (List ℕ)) : Type 0 where
   pub once : WritesOnceEach start stages (new_replies (life_replies Basic meaning start stages f))
       (stops_in stages)
   pub kept : ℕ
-  pub few : kept ≤ stops_in stages
-  pub listed : length requests ≡ new_replies (life_replies Basic meaning start stages f) + kept
+  pub few : kept ≤ hands_in stages
+  pub listed : length requests
+      ≡ new_requests_told (life_replies Basic meaning start stages f) + kept
 
 abbrev pub BasicLivesWriteOnce : Type 0
 BasicLivesWriteOnce =

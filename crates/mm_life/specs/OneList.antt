@@ -1,23 +1,29 @@
 -- The one list of requests of a life: what its programs tell are steps of the machine on it.
-use Rattle.std.specs.Prelude.{◌≡◌, ℕ, List, [], ◌∷◌, ◌++◌, Result, Ok, Err, IsSome, ◌⊎◌}
+use Rattle.std.specs.Prelude.{◌≡◌, ◌-◌, ℕ, List, [], ◌∷◌, ◌++◌, length, Result, Ok, Err, IsSome, ◌⊎◌}
 use Rattle.std.specs.List.{AllByRecursion}
-use Rattle.mm_life.specs.Below.{Variant, Standing, Batch, One, Meaning, Answer, History, requests_of, Instance, IsGenuine, StandsFor}
+use Rattle.mm_life.specs.Below.{Variant, Standing, Batch, members_of, normal_batch, Meaning, BatchAnswer, History, requests_of, Instance, IsGenuine, StandsFor}
 use Rattle.mm_life.specs.Below.{Refusal, Memory, IsWithin, finding_at, list_level, fault_of, IsBatchStep, Reply, answer_reply, ServedCall}
 use Rattle.mm_life.specs.Below.{HasUntoldRequest, IsToldInPart, CallsRunOver, SessionFault, last_bytes_in}
 use Rattle.mm_base.specs.declared.replay_fault.ReplayFault.TheVariants.{WriteFault}
 use Rattle.mm_host.specs.declared.fault.SessionFault.TheVariants.{Lines}
+use Rattle.mm_schedule.specs.declared.reply.Reply.TheVariants.{Told}
 use Rattle.mm_life.specs.Deeds.{LifeCall, Calls}
 use Rattle.mm_life.specs.SessionCalls.{IsInHandOf, served_calls_of}
 use Rattle.mm_life.specs.Stages.{Does, Holds, IsLife, LifePart, PartLeads, LifeStage, end_of, latest_calls}
 
+-- the reply that the answer to a batch is: with the number of the requests before it
+abbrev pub batch_reply : BatchAnswer → Reply
+batch_reply answer =
+    Told answer.again (answer.position - length answer.outputs) answer.outputs
+
 -- One call on a list of requests: its answer is a step of the machine. Refused it leaves the list;
--- by a device's fault its request may be run, and not told.
-abbrev pub CallSteps : Meaning → List (List ℕ) → List ℕ → Result Answer Refusal → List (List ℕ)
-    → Type 0
-CallSteps meaning requests request (Ok answer) after =
-    IsBatchStep meaning requests (One request) (answer_reply answer) after
-CallSteps meaning requests request (Err why) after =
-    (after ≡ requests) ⊎ (IsSome (fault_of why) × (after ≡ requests ++ request ∷ []))
+-- by a device's fault its batch may be run whole, and not told.
+abbrev pub CallSteps : Meaning → List (List ℕ) → Batch → Result BatchAnswer Refusal
+    → List (List ℕ) → Type 0
+CallSteps meaning requests batch (Ok answer) after =
+    IsBatchStep meaning requests batch (batch_reply answer) after
+CallSteps meaning requests batch (Err why) after =
+    (after ≡ requests) ⊎ (IsSome (fault_of why) × (after ≡ requests ++ members_of batch))
 
 -- A session on a list of requests: what it told are steps of the machine, one after another; and
 -- where it stopped the request in hand may be run, and not told. Where the output failed, what is
@@ -35,8 +41,8 @@ abbrev pub told_replies : List ServedCall → List Reply
 told_replies [] = []
 told_replies (c ∷ calls) = answer_reply c.answer ∷ told_replies calls
 
-abbrev pub call_replies : Result Answer Refusal → List Reply
-call_replies (Ok answer) = answer_reply answer ∷ []
+abbrev pub call_replies : Result BatchAnswer Refusal → List Reply
+call_replies (Ok answer) = batch_reply answer ∷ []
 call_replies (Err why) = []
 
 -- one part of a life: other deeds leave the list
@@ -47,7 +53,7 @@ PartSteps variant meaning old (Holds p) new s requests after =
     SessionSteps meaning requests (served_calls_of s) (IsInHandOf s) (last_bytes_in s.goes) p.result
     after
 PartSteps variant meaning old (Does (Calls c)) new s requests after =
-    CallSteps meaning requests c.request c.gives after
+    CallSteps meaning requests c.batch c.gives after
 PartSteps variant meaning old (Does _) new s requests after = after ≡ requests
 
 -- The life is steps on one list, from these requests to those.
@@ -81,7 +87,7 @@ IsLastJudged i y [] = Unit {0}
 IsLastJudged i y (c ∷ []) =
     (why : Refusal) → c.gives ≡ Err why
     → IsSome (fault_of why) ⊎ (why ≡ Memory)
-    ⊎ (finding_at i (list_level i) y (One c.request) c.offer ≡ Err why)
+    ⊎ (finding_at i (list_level i) y (normal_batch c.batch) c.offer ≡ Err why)
 IsLastJudged i y (c ∷ next ∷ calls) = IsLastJudged i y (next ∷ calls)
 
 -- The life is one whole: there is one list of requests that all of it follows, from none; and what

@@ -3,14 +3,14 @@ use Rattle.std.specs.Prelude.{ℕ, List, [], ◌∷◌, ◌++◌, drop, map, tak
 use Rattle.std.specs.List.{Contains, flat_map}
 use Rattle.std.specs.Option.{option_map_or}
 use Rattle.mm_life.specs.Below.{anchored_message, extended_message, start_message, zero_bytes, Content, Item, Standing}
-use Rattle.mm_life.specs.Below.{item_values, Batch, One, digest_after, Instance, register_trail, IsRight, right_messages}
-use Rattle.mm_life.specs.Below.{right_content, foreign_items, Answer, Refusal}
+use Rattle.mm_life.specs.Below.{item_values, Batch, normal_batch, digest_after, Instance, register_trail, IsRight, right_messages}
+use Rattle.mm_life.specs.Below.{right_content, foreign_items, BatchAnswer, Refusal}
 use Rattle.mm_life.specs.Deeds.{LifeCall, Checkpoints}
 use Rattle.mm_life.specs.IdleParts.{is_idle}
 use Rattle.mm_life.specs.Stages.{Does, IsLife, LifePart, LifeStage, life_calls, part_calls}
 
 -- the snapshots that these calls issued, told or not
-abbrev pub issued_snapshot_in : Result Answer Refusal → List (List ℕ)
+abbrev pub issued_snapshot_in : Result BatchAnswer Refusal → List (List ℕ)
 issued_snapshot_in (Ok answer) = answer.snapshot ∷ []
 issued_snapshot_in (Err why) = []
 
@@ -36,16 +36,16 @@ AreUntagged i issued start (stage ∷ stages) f =
     IsFirstUntagged i issued calls
     × AreUntagged i (issued ++ snapshots_of calls) stage.after stages f.1)
 
--- the requests of the calls, each a batch
+-- the batches of the calls; one of a single request as such
 abbrev pub call_batches : List LifeCall → List Batch
-call_batches calls = map (λ c. One c.request) calls
+call_batches calls = map (λ c. normal_batch c.batch) calls
 
 -- The messages of calls: the start message, and for each call those of what is asked with a right
 -- offer.
 abbrev pub call_messages : Instance → List LifeCall → List (List ℕ)
 call_messages i calls =
     start_message i.variant i.meaning.id
-    ∷ flat_map (λ c. right_messages i (One c.request) (right_content i c.offer)) calls
+    ∷ flat_map (λ c. right_messages i (normal_batch c.batch) (right_content i c.offer)) calls
 
 -- In Opt, behind each part of a life that isn't idle: those by which the register's items went into
 -- it; and of a checkpoint those by which it may close the segment in front of, between and behind

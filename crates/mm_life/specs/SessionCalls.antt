@@ -7,21 +7,20 @@ use Rattle.mm_life.specs.Below.{AsksNextRequest, HostGoesAfterFinding, HostGoesA
 use Rattle.mm_life.specs.Below.{SessionGoesAfterResume, ServesAllLines, SessionPlace, SessionStanding, ServedCall, IsSession, IsInHand}
 use Rattle.mm_life.specs.Below.{host_of, served_calls_in, SessionFault}
 use Rattle.mm_host.specs.declared.fault.SessionFault.TheVariants.{Host, Lines}
-use Rattle.mm_life.specs.Deeds.{LifeCall}
+use Rattle.mm_life.specs.Deeds.{LifeCall, call_of}
 
 -- the calls that were answered and told, from what was offered first
 abbrev pub told_calls : List ℕ → List ServedCall → List LifeCall
 told_calls offer [] = []
 told_calls offer (c ∷ calls) =
-    record { offer = offer; request = c.line; gives = Ok c.answer }
-    ∷ told_calls c.answer.snapshot calls
+    call_of offer c.line (Ok c.answer) ∷ told_calls c.answer.snapshot calls
 
 -- a request is asked: one call
 abbrev pub one_call : {variant : Variant} {meaning : Meaning} {old new : HostStanding}
     {offer request : List ℕ} {result : Result Resumed HostFault}
     → AsksAndKeepsAnswer variant meaning old new offer request result → List LifeCall
 one_call {offer = offer} {request = request} a =
-    record { offer = offer; request = request; gives = a.asked } ∷ []
+    call_of offer request a.asked ∷ []
 
 -- what waits is asked, unless the store failed before
 abbrev pub offered_calls : (variant : Variant) (meaning : Meaning)

@@ -3,11 +3,13 @@
 ghost use Rattle.mm_life.specs.DeviceDeeds.{CyclesAreDeeds, ReadsAreDeeds};
 ghost use Rattle.mm_life.specs.DeedHistory.{BasicDeedsStay, OptDeedsStay};
 ghost use Rattle.mm_life.specs.OneRequest.{OneRequestMeetsPremises, OptRequestMeetsPremises};
+ghost use Rattle.mm_life.specs.BatchDeeds.{BatchCallsAreDeeds, CallsInPartsAreDeeds};
 ghost use Rattle.mm_life.specs.PartsElsewhere.{PartsAreRefusedElsewhere};
 ghost use Rattle.mm_life.specs.LifeWrites.{BasicLivesWriteOnce, OptLivesWriteOnce};
 ghost use Rattle.mm_life.specs.Laws.{BasicLifeIsOne, LivesKeepPromises, LivesTellWhatWasSaid, NextMayStart, OptLifeIsOne, SessionsOfferSlots};
 
 use mm_outcome::premises_are_met;
+use mm_recovery::nothing_is_done_elsewhere;
 use mm_schedule::laws::{runs_keep_promises, tells_what_was_said};
 
 /// Basic: whatever is done to a platform behind its first start, there is one list of requests, and
@@ -55,6 +57,15 @@ pub fn deeds_stay()
 pub fn parts_are_refused_elsewhere()
     ensures { PartsAreRefusedElsewhere }
 {}
+
+/// A call for a batch is a deed, whoever makes it; and so is one that is made in parts, whole or
+/// broken off at any of its steps.
+pub fn batch_calls_are_deeds()
+    ensures calls { BatchCallsAreDeeds }
+    ensures parts { CallsInPartsAreDeeds }
+{
+    nothing_is_done_elsewhere();
+}
 
 /// A read of the cell, and a loss of power that was called for, are deeds.
 pub fn device_calls_are_deeds()
