@@ -25,7 +25,7 @@ use Rattle.mm_host.specs.declared.fault.SessionFault.TheVariants.{Host, Lines}
 use Rattle.mm_life.specs.Deeds.{LifeCall}
 use Rattle.mm_life.specs.HonestLife.{AreNoChance, BeginsOver, IsOverOneStore, WaitsInSlots, reached_position, store_behind}
 use Rattle.mm_life.specs.Laws.{OffersSlots, SessionsOfferSlots}
-use Rattle.mm_life.specs.LifeWrites.{fault_stop, host_stop, part_stop, session_stop, stops_in}
+use Rattle.mm_life.specs.LifeWrites.{fault_stop, hands_in, host_stop, part_hand, part_stop, session_stop, stops_in}
 use Rattle.mm_life.specs.OneList.{life_replies, told_replies}
 use Rattle.mm_life.specs.Premises.{AreUntagged, IsFirstUntagged, bytes_unless_idle, closing_messages, others_values, register_messages}
 use Rattle.mm_life.specs.Premises.{shown_messages, snapshots_of}
@@ -33,7 +33,7 @@ use Rattle.mm_life.specs.SessionCalls.{found_record}
 use Rattle.mm_life.specs.Stages.{Holds, LifePart, life_calls, session_on}
 use Rattle.mm_moments.specs.KilledSessions.{SessionStopsAnywhere}
 use Rattle.mm_moments.specs.MortalLaws.{AreMortalNoChance, AreMortalUntagged, IsMortalOverOneStore, MortalBeginsOver, mortal_closing_messages}
-use Rattle.mm_moments.specs.MortalLaws.{mortal_others, mortal_register_messages, mortal_stop, mortal_stops, mortal_store_behind}
+use Rattle.mm_moments.specs.MortalLaws.{mortal_hand, mortal_hands, mortal_others, mortal_register_messages, mortal_stop, mortal_stops, mortal_store_behind}
 use Rattle.mm_moments.specs.MortalLives.{Dies, KilledOfferSlots, IsMortalLife, IsPartFor, LifeEnds, Lives, MortalLivesEnd, MortalPart, MortalPartLeads}
 use Rattle.mm_moments.specs.MortalLives.{MortalStage, PartEnds, ended_life, ended_stages, mortal_calls, mortal_part_calls, mortal_replies}
 use Rattle.std.specs.Option.{option_map_or}
@@ -140,6 +140,18 @@ module _ (variant : Variant) (meaning : Meaning) where
   stops_most start (stage ∷ stages) f e =
       let here = part_stops start stage.part stage.after f.0 e.0.ended e.0.is in
       let rest = stops_most stage.after stages f.1 e.1 in omega (arith, here, rest)
+
+  part_hands : (old : Standing) (part : MortalPart) (new : Standing) (f : MortalPartLeads variant meaning old part new) (ended : LifePart)
+      → IsPartFor variant meaning old part new f ended → part_hand ended ≤ mortal_hand part
+  part_hands old (Lives part) new f ended is = rw is (omega arith)
+  part_hands old (Dies p) new f ended is = rw is.2 (one_stop (Err is.1))
+
+  pub hands_most : (start : Standing) (stages : List MortalStage) (f : IsMortalLife variant meaning start stages)
+      (e : LifeEnds variant meaning start stages f) → hands_in (ended_stages variant meaning start stages f e) ≤ mortal_hands stages
+  hands_most start [] f e = omega arith
+  hands_most start (stage ∷ stages) f e =
+      let here = part_hands start stage.part stage.after f.0 e.0.ended e.0.is in
+      let rest = hands_most stage.after stages f.1 e.1 in omega (arith, here, rest)
 
   -- over one store
   begins_over : (kept : StoreStanding) (old : Standing) (part : MortalPart) (new : Standing)

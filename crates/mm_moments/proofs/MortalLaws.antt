@@ -15,16 +15,16 @@ use Rattle.mm_model.specs.Standing.{issued_bytes}
 use Rattle.mm_life.specs.Deeds.{LifeCall}
 use Rattle.mm_life.specs.HonestLife.{BasicLifeGoesOn, IsGoneOnWith, OptLifeGoesOn}
 use Rattle.mm_life.specs.Laws.{BasicLifeIsOne, LivesKeepPromises, LivesTellWhatWasSaid, OptLifeIsOne}
-use Rattle.mm_life.specs.LifeWrites.{BasicLivesWriteOnce, LifeWrites, OptLivesWriteOnce, new_replies, stops_in, turns_in_hand}
+use Rattle.mm_life.specs.LifeWrites.{BasicLivesWriteOnce, LifeWrites, OptLivesWriteOnce, hands_in, new_replies, new_requests_told, stops_in, turns_in_hand}
 use Rattle.mm_life.specs.OneList.{IsOneWhole}
 use Rattle.mm_life.specs.Premises.{call_batches, call_messages, others_values, register_messages, snapshots_of}
 use Rattle.mm_life.specs.Stages.{IsLife, LifeStage, life_calls}
 use Rattle.mm_moments.specs.MortalLaws.{BasicMortalLifeGoesOn, BasicMortalLifeIsOne, MortalLivesKeepPromises, MortalLivesTell}
 use Rattle.mm_moments.specs.MortalLaws.{BasicMortalLivesWriteOnce, OptMortalLifeGoesOn, OptMortalLivesWriteOnce, OptMortalLifeIsOne, mortal_others}
-use Rattle.mm_moments.specs.MortalLaws.{mortal_register_messages, mortal_stops, mortal_turns_in_hand}
+use Rattle.mm_moments.specs.MortalLaws.{mortal_hands, mortal_register_messages, mortal_stops, mortal_turns_in_hand}
 use Rattle.mm_moments.specs.MortalLives.{IsMortalLife, LifeEnds, MortalLivesEnd, MortalStage, ended_life, ended_stages, mortal_calls}
 use Rattle.mm_moments.proofs.MortalTurns.{hand_most, turns_same}
-use Rattle.mm_moments.proofs.MortalEnds.{calls_same, no_chance, others_same, over_one_store, registers_same, replies_same, stops_most, untagged}
+use Rattle.mm_moments.proofs.MortalEnds.{calls_same, no_chance, others_same, over_one_store, registers_same, hands_most, replies_same, stops_most, untagged}
 
 at_most : (count one other : ℕ) → count ≤ one → one ≤ other → count ≤ other
 at_most count one other a b = omega (arith, a, b)
@@ -136,8 +136,8 @@ basic_writes_once law meaning key y start stages f e requests stands follows =
         writes = subst (λ (replies : List Reply). LifeWrites start stages' (new_replies replies + w.once.in_hand)) same w.once.writes;
       };
       kept = w.kept;
-      few = at_most w.kept (stops_in stages') (mortal_stops stages) w.few most;
-      listed = subst (λ (replies : List Reply). length requests ≡ new_replies replies + w.kept) same w.listed;
+      few = at_most w.kept (hands_in stages') (mortal_hands stages) w.few (hands_most Basic meaning start stages f e);
+      listed = subst (λ (replies : List Reply). length requests ≡ new_requests_told replies + w.kept) same w.listed;
     }
 
 pub opt_writes_once : OptLivesWriteOnce → OptMortalLivesWriteOnce

@@ -43,7 +43,7 @@ pub use Rattle.mm_host.specs.SessionStanding.{SessionStanding, session_standing}
 pub use Rattle.mm_host.specs.Sessions.{IsSession, ServedCall, ServesAllLines, ServesCalls, SessionGoesAfterResume, SessionPlace}
 pub use Rattle.mm_host.specs.Sessions.{replies_to, reply_text}
 pub use Rattle.mm_host.specs.declared.fault.SessionFault.{SessionFault}
-pub use Rattle.mm_life.specs.Deeds.{LifeCall}
+pub use Rattle.mm_life.specs.Deeds.{LifeCall, call_of}
 pub use Rattle.mm_life.specs.SessionCalls.{IsInHandOf, first_bytes, first_calls, found_host, found_record, line_calls, served_calls_of}
 pub use Rattle.mm_life.specs.SessionCalls.{session_calls, told_calls}
 pub use Rattle.mm_schedule.specs.declared.reply.Reply.{Reply}

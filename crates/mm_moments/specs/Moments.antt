@@ -11,7 +11,7 @@ use Rattle.mm_moments.specs.Below.{HostStanding, host_standing, IsCall, AsksAndK
 use Rattle.mm_moments.specs.Below.{HostGoesAfterOffer, HostGoesAfterRecord, HostResumes, offer_slot, position_at, record_for}
 use Rattle.mm_moments.specs.Below.{HostFault, Resumed, Answered, IsFrontOf, IsSession, ServedCall, ServesAllLines, ServesCalls}
 use Rattle.mm_moments.specs.Below.{SessionFault, SessionGoesAfterResume, SessionPlace, SessionStanding, first_served_call}
-use Rattle.mm_moments.specs.Below.{replies_to, reply_text, LifeCall, first_calls, found_host, found_record, line_calls}
+use Rattle.mm_moments.specs.Below.{replies_to, reply_text, LifeCall, call_of, first_calls, found_host, found_record, line_calls}
 use Rattle.mm_base.specs.declared.replay_fault.ReplayFault.TheVariants.{WriteFault}
 use Rattle.mm_host.specs.declared.fault.SessionFault.TheVariants.{Host, Lines}
 use Rattle.mm_machine.specs.declared.operation.Sight.TheVariants as sight
@@ -71,21 +71,18 @@ pub record HostMoment : Type 0 where
 abbrev pub host_moment : HostStanding → DeviceCall → List LifeCall → HostMoment
 host_moment host next untold = record { host = host; next = next; untold = untold }
 
-abbrev pub made_call : List ℕ → List ℕ → Result Answer Refusal → LifeCall
-made_call offer request gives = record { offer = offer; request = request; gives = gives }
-
 -- a step of the call for a request; killed there, it is one that its device broke off
 abbrev pub in_host : StoreStanding → List ℕ → List ℕ → StepMoment → HostMoment
 in_host kept offer request m =
     host_moment (host_standing m.at kept) (Steps m.act)
-    (made_call offer request (Err (Device Off)) ∷ [])
+    (call_of offer request (Err (Device Off)) ∷ [])
 
 -- an answer's snapshot is written
 abbrev pub keeping_moments : Result Answer Refusal → HostStanding → List ℕ → List ℕ
     → List HostMoment
 keeping_moments (Ok answer) at offer request =
     host_moment at (Writes (answer.position % 2) answer.snapshot)
-    (made_call offer request (Ok answer) ∷ [])
+    (call_of offer request (Ok answer) ∷ [])
     ∷ []
 keeping_moments (Err why) at offer request = []
 

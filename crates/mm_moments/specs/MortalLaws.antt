@@ -18,7 +18,7 @@ use Rattle.mm_recovery.specs.CellWrites.{is_open_after, openings}
 use Rattle.mm_recovery.specs.FirstStart.{first_history_on, first_slots}
 use Rattle.mm_life.specs.HonestLife.{BeginsOver, IsGoneOnWith, store_behind}
 use Rattle.mm_life.specs.IdleParts.{has_open_segment}
-use Rattle.mm_life.specs.LifeWrites.{WritesOnceEach, new_replies, part_stop, part_turns, part_turns_in_hand}
+use Rattle.mm_life.specs.LifeWrites.{WritesOnceEach, new_replies, new_requests_told, part_hand, part_stop, part_turns, part_turns_in_hand}
 use Rattle.mm_life.specs.OneList.{IsOneWhole, LifeFollows, told_replies}
 use Rattle.mm_life.specs.Premises.{IsFirstUntagged, bytes_unless_idle, call_batches, call_messages, closing_messages, shown_messages}
 use Rattle.mm_life.specs.Premises.{snapshots_of}
@@ -124,16 +124,26 @@ abbrev pub mortal_stops : List MortalStage → ℕ
 mortal_stops [] = 0
 mortal_stops (stage ∷ stages) = mortal_stop stage.part + mortal_stops stages
 
--- In Basic the cell is written once for each request that was told for the first time, and at most
--- once for what was in hand at each stop; and the list has these requests.
+-- the requests that may be in hand behind its stops
+abbrev pub mortal_hand : MortalPart → ℕ
+mortal_hand (Lives part) = part_hand part
+mortal_hand (Dies p) = 1
+
+abbrev pub mortal_hands : List MortalStage → ℕ
+mortal_hands [] = 0
+mortal_hands (stage ∷ stages) = mortal_hand stage.part + mortal_hands stages
+
+-- In Basic the cell is written once for each batch that was told for the first time, and at most
+-- once for what was in hand at each stop; and the list has the requests of these.
 pub record MortalWrites (meaning : Meaning) (start : Standing) (stages : List MortalStage)
     (f : IsMortalLife Basic meaning start stages) (e : LifeEnds Basic meaning start stages f)
     (requests : List (List ℕ)) : Type 0 where
   pub once : WritesOnceEach start (ended_stages Basic meaning start stages f e)
       (new_replies (mortal_replies Basic meaning start stages f)) (mortal_stops stages)
   pub kept : ℕ
-  pub few : kept ≤ mortal_stops stages
-  pub listed : length requests ≡ new_replies (mortal_replies Basic meaning start stages f) + kept
+  pub few : kept ≤ mortal_hands stages
+  pub listed : length requests
+      ≡ new_requests_told (mortal_replies Basic meaning start stages f) + kept
 
 abbrev pub BasicMortalLivesWriteOnce : Type 0
 BasicMortalLivesWriteOnce =
