@@ -1,25 +1,30 @@
 -- What may be relied on in any life.
 use Rattle.std.specs.List.{AllByRecursion}
-use Rattle.std.proofs.Common.{◌≡◌, ◌≢◌, ◌∙◌, ◌⊎◌, ◌+◌, ◌-◌, ◌≤◌, ℕ, Bool, true, false, List, [], ◌∷◌, ◌++◌, length, take, Option, None, Some, Result, Ok, Err}
+use Rattle.std.proofs.Common.{◌≡◌, ◌∙◌, ◌⊎◌, ◌+◌, ◌-◌, ◌≤◌, ℕ, Bool, true, false, List, [], ◌∷◌, ◌++◌, length, take, Option, None, Some, Result, Ok, Err}
 use Rattle.std.proofs.Common.{refl, sym, ap, inl, inr, subst, arith, append_assoc, length-append}
 use Rattle.std.proofs.lemmas.List.{append-nil}
 use Rattle.std.proofs.Math.Seq.{take-append_seam}
+use Rattle.mm_module.specs.Batch.{Batch, members_of}
+use Rattle.mm_module.specs.Meaning.{outputs_from}
+use Rattle.mm_module.specs.RunLaws.{state_after-push}
+use Rattle.mm_model.specs.declared.answer.BatchAnswer.{BatchAnswer}
+use Rattle.mm_schedule.specs.Machine.{IsTold}
 use Rattle.mm_client.proofs.Below.{last_bytes_in}
-use Rattle.mm_client.proofs.Below.{Variant, Meaning, One, Standing, Answer, Refusal, Resumed, Start, Answered, PendingRecord, each_append, state_after}
+use Rattle.mm_client.proofs.Below.{Variant, Meaning, One, Standing, Refusal, Resumed, Start, Answered, PendingRecord, each_append, state_after}
 use Rattle.mm_client.proofs.Below.{IsBatchStep, Told, answer_reply, CallSteps, LifeFollows, PartSteps, SessionSteps, Calls, Checkpoints, Extends, LosesPower}
-use Rattle.mm_client.proofs.Below.{Does, Holds, IsLife, LifePart, LifeStage, PartLeads, end_of, Program, session_on, ServedCall, CallsRunOver, HasUntoldRequest}
-use Rattle.mm_client.proofs.Below.{IsSession, SessionStanding, host_of, SessionFault, SessionGoesAfterResume, BytesBeginWith, TurnGoes, turn_answer_of, lines_of}
+use Rattle.mm_client.proofs.Below.{Does, Holds, IsLife, LifePart, LifeStage, PartLeads, ServedCall, CallsRunOver, HasUntoldRequest}
+use Rattle.mm_client.proofs.Below.{IsSession, SessionStanding, host_of, SessionFault, SessionGoesAfterResume, TurnGoes, turn_answer_of, lines_of}
 use Rattle.mm_client.proofs.Below.{HostGoesAfterFinding, IsUnbroken, joined_lines, first_served_call, served_calls_in, served_calls_of, served_lines, found_record, IsInHand, IsInHandOf, replies_to, reply_text}
 use Rattle.mm_client.specs.declared.heard.HeardReply.{HeardReply}
 use Rattle.mm_client.specs.AnyLife.{AskingTells, OwnOutputsTell, RepliesTellRequests, SessionsSendReplies, TellsSince, WholeSessionsTellAll}
-use Rattle.mm_client.specs.AnyLife.{answer_told, life_told, part_told}
+use Rattle.mm_client.specs.AnyLife.{answer_told, heard_from, life_told, part_told}
 use Rattle.mm_client.specs.ClientLife.{replies_of}
 use Rattle.mm_client.specs.ServedOnce.{IsTrueReply}
 use Rattle.mm_client.proofs.Beginning.{Began, answers, at_start, found}
 use Rattle.mm_client.proofs.Giving.{LinesGo, lines_go, next_line, served_unbroken}
 use Rattle.mm_client.proofs.OneSession.{none_served}
-use Rattle.mm_client.proofs.Positions.{call_positive, session_positive}
-use Rattle.mm_client.proofs.Replies.{all_true_on, runs_grow, step_grows, step_true, told_true}
+use Rattle.mm_client.proofs.Positions.{session_positive}
+use Rattle.mm_client.proofs.Replies.{all_true_on, runs_grow, step_grows, told_true}
 
 abbrev pub IsGrown : List (List ℕ) → List (List ℕ) → Type 0
 IsGrown requests after = (more : List (List ℕ)) × (requests ++ more ≡ after)
@@ -41,15 +46,53 @@ pub record PartTells (meaning : Meaning) (requests after : List (List ℕ)) (tol
   pub trues : AllByRecursion (IsTrueReply meaning after) told
 
 module _ (variant : Variant) (meaning : Meaning) where
-  call_tells : (old new : Standing) (offer request : List ℕ) (gives : Result Answer Refusal) (requests after : List (List ℕ))
-      → ((answer : Answer) → gives ≡ Ok answer → 1 ≤ answer.position) → CallSteps meaning requests request gives after
-      → PartTells meaning requests after (answer_told gives)
-  call_tells old new offer request (Ok answer) requests after least s = record {
-    grown = step_grows meaning answer.again requests after request (answer.position - 1) (answer.output ∷ []) s;
-    trues = (step_true meaning answer.again requests after request answer.output answer.position (least answer refl) s, tt);
+  -- what is told of a batch, from the requests before it
+  trues_from : (members : List (List ℕ)) (front later outputs : List (List ℕ)) (before : ℕ) → before ≡ length front
+      → outputs ≡ outputs_from meaning (state_after meaning front) members
+      → AllByRecursion (IsTrueReply meaning (front ++ (members ++ later))) (heard_from before outputs)
+  trues_from [] front later outputs before counted said = rw said tt
+  trues_from (member ∷ members) front later outputs before counted said =
+      let next : List (List ℕ) = front ++ member ∷ [] in
+      let size : before + 1 ≡ length next = omega (arith, counted, length-append front (member ∷ [])) in
+      let rest = trues_from members next later (outputs_from meaning (state_after meaning next) members) (before + 1) size refl in
+      rw said (
+        record {
+          before = front;
+          request = member;
+          later = members ++ later;
+          stands = refl;
+          position = ap (λ (n : ℕ). n + 1) counted;
+          says = refl;
+        },
+        subst (λ (state : List ℕ). AllByRecursion (IsTrueReply meaning (front ++ (member ∷ (members ++ later))))
+            (heard_from (before + 1) (outputs_from meaning state members))) (state_after-push meaning front member)
+            (subst (λ (requests : List (List ℕ)). AllByRecursion (IsTrueReply meaning requests)
+            (heard_from (before + 1) (outputs_from meaning (state_after meaning next) members)))
+            (append_assoc front (member ∷ []) (members ++ later)) rest),
+      )
+
+  told_trues : (requests after outputs : List (List ℕ)) (batch : Batch) (before : ℕ) → IsTold meaning requests batch before outputs after
+      → AllByRecursion (IsTrueReply meaning after) (heard_from before outputs)
+  told_trues requests after outputs batch before t =
+      subst (λ (list : List (List ℕ)). AllByRecursion (IsTrueReply meaning list) (heard_from before outputs))
+      (ap (λ (xs : List (List ℕ)). requests ++ xs) (append-nil (members_of batch)) ∙ sym t.grown)
+      (trues_from (members_of batch) requests [] outputs before t.counted t.said)
+
+  batch_tells : (again : Bool) (before : ℕ) (outputs : List (List ℕ)) (batch : Batch) (requests after : List (List ℕ))
+      → IsBatchStep meaning requests batch (Told again before outputs) after → PartTells meaning requests after (heard_from before outputs)
+  batch_tells false before outputs batch requests after s =
+      record { grown = (members_of batch, sym s.grown); trues = told_trues requests after outputs batch before s }
+  batch_tells true before outputs batch requests after s = record {
+    grown = same_grown requests after s.2;
+    trues = rw s.2 (told_trues s.0 requests outputs batch before s.1);
   }
-  call_tells old new offer request (Err why) requests after least (inl same) = record { grown = same_grown requests after same; trues = tt }
-  call_tells old new offer request (Err why) requests after least (inr u) = record { grown = (request ∷ [], sym u.1); trues = tt }
+
+  call_tells : (batch : Batch) (gives : Result BatchAnswer Refusal) (requests after : List (List ℕ))
+      → CallSteps meaning requests batch gives after → PartTells meaning requests after (answer_told gives)
+  call_tells batch (Ok answer) requests after s =
+      batch_tells answer.again (answer.position - length answer.outputs) answer.outputs batch requests after s
+  call_tells batch (Err why) requests after (inl same) = record { grown = same_grown requests after same; trues = tt }
+  call_tells batch (Err why) requests after (inr u) = record { grown = (members_of batch, sym u.1); trues = tt }
 
   pub part_tells : (old : Standing) (part : LifePart) (new : Standing) (f : PartLeads variant meaning old part new)
       (requests after : List (List ℕ)) → PartSteps variant meaning old part new f requests after
@@ -62,9 +105,7 @@ module _ (variant : Variant) (meaning : Meaning) where
         trues = all_true_on meaning s.between grown.0 after (replies_of told) grown.1
             (told_true meaning told requests s.between (session_positive variant meaning f (found_record f.resumes.waiting) f.goes) s.run);
       }
-  part_tells old (Does (Calls c)) new f requests after s =
-      call_tells old new c.offer c.request c.gives requests after
-      (λ answer e. call_positive variant meaning old new c.offer c.request c.gives answer f e) s
+  part_tells old (Does (Calls c)) new f requests after s = call_tells c.batch c.gives requests after s
   part_tells old (Does (Extends values)) new f requests after s = record { grown = same_grown requests after s; trues = tt }
   part_tells old (Does LosesPower) new f requests after s = record { grown = same_grown requests after s; trues = tt }
   part_tells old (Does (Checkpoints said)) new f requests after s = record { grown = same_grown requests after s; trues = tt }

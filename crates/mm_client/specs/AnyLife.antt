@@ -1,16 +1,24 @@
 -- What a client may rely on where others ask too, or write the slots: in any life.
-use Rattle.std.specs.Prelude.{◌≡◌, ◌+◌, ◌≤◌, ℕ, List, [], ◌∷◌, ◌++◌, Some, Result, Ok, Err, length, ◌⊎◌}
+use Rattle.std.specs.Prelude.{◌≡◌, ◌+◌, ◌-◌, ◌≤◌, ℕ, List, [], ◌∷◌, ◌++◌, Some, Result, Ok, Err, length, ◌⊎◌}
 use Rattle.std.specs.List.{AllByRecursion}
-use Rattle.mm_client.specs.Below.{Variant, Standing, Meaning, state_after, IsUnbroken, joined_lines, Answer, Refusal, ServedCall, IsSession, SessionFault}
+use Rattle.mm_client.specs.Below.{Variant, Standing, Meaning, state_after, IsUnbroken, joined_lines, BatchAnswer, Refusal, ServedCall, IsSession, SessionFault}
 use Rattle.mm_client.specs.Below.{SessionStanding, replies_to, served_lines, Calls, LifeFollows, PartSteps, served_calls_of, Does, Holds, IsLife, LifePart}
 use Rattle.mm_client.specs.Below.{LifeStage, PartLeads, Program, end_of, last_bytes_in}
 use Rattle.mm_client.specs.declared.heard.HeardReply.{HeardReply}
 use Rattle.mm_client.specs.ClientLife.{replies_of}
 use Rattle.mm_client.specs.ServedOnce.{IsTrueReply}
 
--- the replies that are told in a part of a life, and in all of it
-abbrev pub answer_told : Result Answer Refusal → List HeardReply
-answer_told (Ok answer) = record { position = answer.position; output = answer.output } ∷ []
+-- The replies that are told in a part of a life, and in all of it.
+
+-- those to a batch that comes behind so many requests
+abbrev pub heard_from : ℕ → List (List ℕ) → List HeardReply
+heard_from before [] = []
+heard_from before (output ∷ outputs) =
+    record { position = before + 1; output = output } ∷ heard_from (before + 1) outputs
+
+abbrev pub answer_told : Result BatchAnswer Refusal → List HeardReply
+answer_told (Ok answer) =
+    heard_from (answer.position - length answer.outputs) answer.outputs
 answer_told (Err why) = []
 
 abbrev pub part_told : (variant : Variant) (meaning : Meaning) (old : Standing) (part : LifePart)

@@ -23,6 +23,7 @@ pub use Rattle.mm_life.specs.HonestLife.{AreNoChance, IsGoneOnWith, IsOverOneSto
 pub use Rattle.mm_recovery.specs.FirstStart.{first_history_on, first_slots}
 pub use Rattle.mm_evidence.specs.Evidence.{HasClash}
 pub use Rattle.mm_model.specs.declared.answer.Answer.{Answer}
+pub use Rattle.mm_model.specs.declared.answer.BatchAnswer.{BatchAnswer}
 pub use Rattle.mm_model.specs.declared.refusal.Refusal.{Refusal}
 pub use Rattle.mm_host.specs.SessionStanding.{SessionStanding}
 pub use Rattle.mm_host.specs.Sessions.{IsSession, replies_to, served_lines}
