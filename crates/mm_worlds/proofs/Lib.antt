@@ -11,3 +11,4 @@ mod LivingParts
 mod BasicWorld
 mod Promises
 mod Decided
+mod Crossings

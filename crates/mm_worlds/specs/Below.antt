@@ -35,3 +35,6 @@ pub use Rattle.mm_life.specs.Deeds.{LifeCall}
 pub use Rattle.mm_life.specs.OneList.{PartSteps, part_replies}
 pub use Rattle.mm_life.specs.Premises.{IsUntagged, call_batches, snapshots_of}
 pub use Rattle.mm_life.specs.Stages.{LifePart, PartLeads, part_calls}
+pub use Rattle.mm_store.specs.StoreStanding.{StoreStanding}
+pub use Rattle.mm_host.specs.declared.fault.SessionFault.{SessionFault}
+pub use Rattle.mm_life.specs.Stages.{Holds, ProgramStanding, program_standing}

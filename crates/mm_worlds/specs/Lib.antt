@@ -6,3 +6,4 @@ pub mod Premises
 pub mod OneWorld
 pub mod Evidence
 pub mod Laws
+pub mod Crossing

@@ -2,8 +2,10 @@
 //! one link, is one list of requests, and the module is on one of them, or on its way.
 #![tactic(auto)]
 
+mod crossing;
 mod laws;
 
+pub use crossing::{Crossing, cross_over};
 pub use laws::{
     basic_world_is_one, evidence_is_no_premise, world_is_one_or_evidence, worlds_keep_promises,
 };
