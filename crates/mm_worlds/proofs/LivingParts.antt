@@ -19,8 +19,10 @@ use Rattle.mm_model.specs.Messages.{IsClear}
 use Rattle.mm_model.specs.Places.{NamesPosition}
 use Rattle.mm_model.specs.Standing.{IsGenuine, StandsFor, cell_of}
 use Rattle.mm_model.specs.declared.answer.Answer.{Answer}
+use Rattle.mm_model.specs.declared.answer.BatchAnswer.{BatchAnswer}
 use Rattle.mm_model.specs.declared.refusal.Refusal.{Refusal}
 use Rattle.mm_call.specs.CallPremises.{IsWithin}
+use Rattle.mm_call.specs.Untouched.{batch_result_of}
 use Rattle.mm_call.proofs.Above.{each_at}
 use Rattle.mm_host.specs.Continuation.{CallsRunOver, IsToldInPart}
 use Rattle.mm_host.specs.Sessions.{ServedCall}
@@ -69,10 +71,14 @@ none_answered : (gives : Result Answer Refusal) (came : Result Resumed HostFault
 none_answered (Ok it) came answer r t e = let clash = r in absurd (cc)
 none_answered (Err why) came answer r t e = let clash = sym e ∙ t in absurd (cc)
 
-call_refused : (meaning : Meaning) (requests : List (List ℕ)) (request : List ℕ) (gives : Result Answer Refusal) → IsErr gives
-    → CallSteps meaning requests request gives requests
-call_refused meaning requests request (Err why) r = inl refl
-call_refused meaning requests request (Ok answer) r = let clash = r in absurd (cc)
+given_refused : (gives : Result Answer Refusal) → IsErr (batch_result_of gives) → IsErr gives
+given_refused (Err why) r = refl
+given_refused (Ok it) r = let clash = r in absurd (cc)
+
+call_refused : (meaning : Meaning) (requests : List (List ℕ)) (b : Batch) (gives : Result BatchAnswer Refusal) → IsErr gives
+    → CallSteps meaning requests b gives requests
+call_refused meaning requests b (Err why) r = inl refl
+call_refused meaning requests b (Ok answer) r = let clash = r in absurd (cc)
 
 module _ (variant : Variant) (meaning : Meaning) (requests : List (List ℕ)) where
   in_part : {at final : Standing} {offer : List ℕ} {hand : List ℕ → Type 0} {sent : List ℕ} {untold : List LifeCall}
@@ -80,7 +86,7 @@ module _ (variant : Variant) (meaning : Meaning) (requests : List (List ℕ)) wh
       → result ≡ Err (Lines WriteFault) → IsToldInPart meaning hand sent requests requests
   in_part (rests same none unwritten) r w = absurd (unwritten w)
   in_part {hand = hand} {sent = sent} (stops request h gives c is came t fault says ends) r w =
-      let refused : IsErr gives = (subst AreRefused is r).0 in
+      let refused : IsErr gives = given_refused gives (subst AreRefused is r).0 in
       told_in_part meaning hand requests requests came sent fault says
       (λ answer e. absurd (none_answered gives came answer refused t e)) (inl refl) (cc)
 
@@ -99,7 +105,7 @@ module _ (variant : Variant) (meaning : Meaning) (requests : List (List ℕ)) wh
   pub part_refused : (old : Standing) (part : LifePart) (new : Standing) (f : PartLeads variant meaning old part new)
       → AreRefused (part_calls variant meaning old part new f) → PartSteps variant meaning old part new f requests requests
   part_refused old (Holds p) new f r = session_refused old p new f r
-  part_refused old (Does (Calls c)) new f r = call_refused meaning requests c.request c.gives r.0
+  part_refused old (Does (Calls c)) new f r = call_refused meaning requests c.batch c.gives r.0
   part_refused old (Does (Extends values)) new f r = refl
   part_refused old (Does LosesPower) new f r = refl
   part_refused old (Does (Checkpoints said)) new f r = refl
@@ -131,7 +137,7 @@ module _ (meaning : Meaning) (link : Link) (y : History) where
   none_issued [] r = refl
   none_issued (c ∷ calls) r = ap (λ (xs : List (List ℕ)). xs ++ snapshots_of calls) (by_gives c.gives r.0) ∙ none_issued calls r.1
     where
-      by_gives : (gives : Result Answer Refusal) → IsErr gives → issued_snapshot_in gives ≡ []
+      by_gives : (gives : Result BatchAnswer Refusal) → IsErr gives → issued_snapshot_in gives ≡ []
       by_gives (Err why) h = refl
       by_gives (Ok answer) h = absurd (cc)
 

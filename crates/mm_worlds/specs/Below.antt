@@ -6,7 +6,7 @@ pub use Rattle.mm_seal.specs.Cell.{blank_cell}
 pub use Rattle.mm_seal.specs.Snapshot.{Content}
 pub use Rattle.mm_seal.specs.declared.cell.CellFault.{CellFault}
 pub use Rattle.mm_platform.specs.Standing.{Standing}
-pub use Rattle.mm_module.specs.Batch.{Batch, One}
+pub use Rattle.mm_module.specs.Batch.{normal_batch}
 pub use Rattle.mm_module.specs.Meaning.{IsLawful, Meaning}
 pub use Rattle.mm_modules.specs.Modules.{meaning_of}
 pub use Rattle.mm_modules.specs.declared.any.AnyModule.{AnyModule}

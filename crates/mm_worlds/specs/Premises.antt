@@ -1,7 +1,7 @@
 -- What is asked of a world, all of it of bytes, and of calls and moves that were made.
 use Rattle.std.specs.Prelude.{◌≡◌, ℕ, List, [], ◌∷◌, ◌++◌, Some, Ok}
 use Rattle.std.specs.List.{AllByRecursion, Contains, flat_map}
-use Rattle.mm_worlds.specs.Below.{start_message, Variant, blank_cell, Standing, One, Meaning, first_history, Instance}
+use Rattle.mm_worlds.specs.Below.{start_message, Variant, blank_cell, Standing, normal_batch, Meaning, first_history, Instance}
 use Rattle.mm_worlds.specs.Below.{StandsFor, issued_bytes, right_content, right_messages, right_ticket, TicketContent, Link, Live}
 use Rattle.mm_worlds.specs.Below.{Retired, Role, LifeCall, IsUntagged, snapshots_of, part_calls}
 use Rattle.mm_worlds.specs.Handed.{Handed, KeyedSnapshot, accepted_snapshots, given_tickets, keyed_snapshots, snapshots_under, used_nonces}
@@ -131,7 +131,7 @@ AreHonest variant meaning link handed world (stage ∷ stages) f =
 -- the messages of the calls that were made where the module is, each under that platform's key
 abbrev pub asked_messages : Instance → List LifeCall → List (List ℕ)
 asked_messages i calls =
-    flat_map (λ c. right_messages i (One c.request) (right_content i c.offer)) calls
+    flat_map (λ c. right_messages i (normal_batch c.batch) (right_content i c.offer)) calls
 
 abbrev pub messages_from : (variant : Variant) (meaning : Meaning) (link : Link) (world : World)
     (stages : List WorldStage) → IsWorldLife variant meaning link world stages → List (List ℕ)
