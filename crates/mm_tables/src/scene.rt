@@ -149,8 +149,7 @@ fn does_with<P: Platform, T: Store>(
 }
 
 /// The same of a command whose options stand in its first line; `keep` puts the store's slots by,
-/// and `back` puts them
-// back.
+/// and `back` puts them back.
 pub fn does<P: Platform, T: Store>(
     notes: &mut TableNotes,
     command: &str,

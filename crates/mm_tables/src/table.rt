@@ -144,7 +144,7 @@ fn play_part(notes: &mut TableNotes, devices: &str, head: &str, text: &str) -> R
     }
 }
 
-// Plays a table, which has a line with its devices; else it is a heading. TableNotes how many of
+// Plays a table, which has a line with its devices; else it is a heading. Notes how many of
 // its cases came out as they stand.
 fn play_table(notes: &mut TableNotes, table: &str) -> Result<(), Memory> {
     let Some((title, rest)) = table.split_once("\n@ ") else {
