@@ -3,7 +3,8 @@ use Rattle.std.specs.List.{AllByRecursion, Contains}
 use Rattle.std.specs.Str.{bytes_eq}
 use Rattle.std.proofs.Common.{◌≡◌, ◌∙◌, ◌⊎◌, ℕ, List, [], ◌∷◌, Option, None, Some, Result, Ok, Err, refl, sym, subst, inl, inr}
 use Rattle.std.proofs.lemmas.Slice.Eq.{bytes_eq-Decides}
-use Rattle.mm_digest.specs.declared.variant.Variant.TheVariants.{Basic}
+use Rattle.mm_digest.specs.declared.variant.Variant.{Variant}
+use Rattle.mm_digest.specs.declared.variant.Variant.TheVariants.{Basic, Opt}
 use Rattle.mm_seal.specs.Parts.{parts_of}
 use Rattle.mm_seal.specs.Snapshot.{Content}
 use Rattle.mm_platform.specs.Standing.{Standing}
@@ -23,7 +24,9 @@ use Rattle.mm_move.specs.declared.link.Link.{Link}
 use Rattle.mm_move.specs.declared.refusal.MoveRefusal.{MoveRefusal}
 use Rattle.mm_worlds.specs.Evidence.{HasWorldBreach, IsWorldBreach, forged_offer, forged_ticket, nonce_twice}
 use Rattle.mm_worlds.specs.Handed.{Handed, snapshots_under}
-use Rattle.mm_worlds.specs.Laws.{BasicWorldIsOne, EvidenceIsNoPremise, WorldIsOneOrEvidence}
+use Rattle.mm_worlds.specs.Laws.{BasicWorldIsOne, EvidenceIsNoPremise, OptEvidenceIsNoPremise, OptWorldIsOne, OptWorldIsOneOrEvidence}
+use Rattle.mm_worlds.specs.Laws.{WorldIsOneOrEvidence}
+use Rattle.mm_worlds.specs.OptPremises.{opt_world_messages, world_batches, world_values}
 use Rattle.mm_worlds.specs.Platforms.{instance_of, key_of}
 use Rattle.mm_worlds.specs.Premises.{AreHonest, IsHonest, IsOwnTicket, first_handed, handed_after, nonces_in, offers_in, tickets_offered}
 use Rattle.mm_worlds.specs.Premises.{world_messages}
@@ -61,43 +64,45 @@ untagged_or i issued offer = elim (contains_or issued offer) [
     by_content (Some content) e none =
         inl (content, right_of i offer (parts_of i.variant i.meaning.id offer) refl content e, none)
 
-ticket_or : (meaning : Meaning) (link : Link) (tickets : List (List ℕ)) (ticket : List ℕ)
-    → ((content : TicketContent) × (right_ticket meaning Basic link.key ticket ≡ Ok content) × (Contains tickets ticket → ⊥))
-    ⊎ IsOwnTicket Basic meaning link tickets ticket
-ticket_or meaning link tickets ticket = elim (contains_or tickets ticket) [
+ticket_or : (variant : Variant) (meaning : Meaning) (link : Link) (tickets : List (List ℕ)) (ticket : List ℕ)
+    → ((content : TicketContent) × (right_ticket meaning variant link.key ticket ≡ Ok content) × (Contains tickets ticket → ⊥))
+    ⊎ IsOwnTicket variant meaning link tickets ticket
+ticket_or variant meaning link tickets ticket = elim (contains_or tickets ticket) [
   | inl there ↦ inr (λ content right. there)
-  | inr none ↦ by_read (right_ticket meaning Basic link.key ticket) refl none
+  | inr none ↦ by_read (right_ticket meaning variant link.key ticket) refl none
 ]
   where
-    by_read : (read : Result TicketContent MoveRefusal) → right_ticket meaning Basic link.key ticket ≡ read → (Contains tickets ticket → ⊥)
-        → ((content : TicketContent) × (right_ticket meaning Basic link.key ticket ≡ Ok content) × (Contains tickets ticket → ⊥))
-        ⊎ IsOwnTicket Basic meaning link tickets ticket
+    by_read : (read : Result TicketContent MoveRefusal) → right_ticket meaning variant link.key ticket ≡ read
+        → (Contains tickets ticket → ⊥)
+        → ((content : TicketContent) × (right_ticket meaning variant link.key ticket ≡ Ok content) × (Contains tickets ticket → ⊥))
+        ⊎ IsOwnTicket variant meaning link tickets ticket
     by_read (Ok content) e none = inl (content, e, none)
     by_read (Err why) e none = inr (λ content right. let clash : Err why ≡ Ok content = sym e ∙ right in absurd (cc))
 
-module _ (meaning : Meaning) (link : Link) where
-  module _ (handed : Handed) (old : Standing) (part : WorldPart) (new : Standing) (f : WorldPartLeads Basic meaning link old part new) where
+module _ (variant : Variant) (meaning : Meaning) (link : Link) where
+  module _ (handed : Handed) (old : Standing) (part : WorldPart) (new : Standing)
+      (f : WorldPartLeads variant meaning link old part new) where
     abbrev Breach : Type 0
-    Breach = IsWorldBreach Basic meaning link handed old part new f
+    Breach = IsWorldBreach variant meaning link handed old part new f
 
     abbrev i : Instance
-    i = instance_of Basic meaning link old
+    i = instance_of variant meaning link old
 
     abbrev issued : List (List ℕ)
     issued = snapshots_under (key_of old) handed.snapshots
 
-    offers_or : Breach ⊎ AllByRecursion (IsUntagged i issued) (offers_in Basic meaning link old part new f)
+    offers_or : Breach ⊎ AllByRecursion (IsUntagged i issued) (offers_in variant meaning link old part new f)
     offers_or =
-        each_or (IsUntagged i issued) Breach (offers_in Basic meaning link old part new f) (offers_in Basic meaning link old part new f)
-        (each_self [] (offers_in Basic meaning link old part new f)) (λ offer among. elim (untagged_or i issued offer) [
+        each_or (IsUntagged i issued) Breach (offers_in variant meaning link old part new f) (offers_in variant meaning link old part new f)
+        (each_self [] (offers_in variant meaning link old part new f)) (λ offer among. elim (untagged_or i issued offer) [
           | inl forged ↦ inl (forged_offer offer forged.0 among forged.1 forged.2)
           | inr fine ↦ inr fine
         ])
 
-    tickets_or : Breach ⊎ AllByRecursion (IsOwnTicket Basic meaning link handed.tickets) (tickets_offered part)
+    tickets_or : Breach ⊎ AllByRecursion (IsOwnTicket variant meaning link handed.tickets) (tickets_offered part)
     tickets_or =
-        each_or (IsOwnTicket Basic meaning link handed.tickets) Breach (tickets_offered part) (tickets_offered part)
-        (each_self [] (tickets_offered part)) (λ ticket among. elim (ticket_or meaning link handed.tickets ticket) [
+        each_or (IsOwnTicket variant meaning link handed.tickets) Breach (tickets_offered part) (tickets_offered part)
+        (each_self [] (tickets_offered part)) (λ ticket among. elim (ticket_or variant meaning link handed.tickets ticket) [
           | inl forged ↦ inl (forged_ticket ticket forged.0 among forged.1 forged.2)
           | inr fine ↦ inr fine
         ])
@@ -110,7 +115,7 @@ module _ (meaning : Meaning) (link : Link) where
           | inr fine ↦ inr fine
         ])
 
-    honest_or : Breach ⊎ IsHonest Basic meaning link handed old part new f
+    honest_or : Breach ⊎ IsHonest variant meaning link handed old part new f
     honest_or = elim offers_or [
       | inl broken ↦ inl broken
       | inr offers ↦ elim tickets_or [
@@ -122,40 +127,40 @@ module _ (meaning : Meaning) (link : Link) where
       ]
     ]
 
-    honest_apart : IsHonest Basic meaning link handed old part new f → Breach → ⊥
+    honest_apart : IsHonest variant meaning link handed old part new f → Breach → ⊥
     honest_apart h (forged_offer offer content among right none) =
-        none (each_at (IsUntagged i issued) (offers_in Basic meaning link old part new f) offer h.offers among content right)
+        none (each_at (IsUntagged i issued) (offers_in variant meaning link old part new f) offer h.offers among content right)
     honest_apart h (forged_ticket ticket content among right none) =
-        none (each_at (IsOwnTicket Basic meaning link handed.tickets) (tickets_offered part) ticket h.tickets among content right)
+        none (each_at (IsOwnTicket variant meaning link handed.tickets) (tickets_offered part) ticket h.tickets among content right)
     honest_apart h (nonce_twice nonce among before) =
         each_at (λ (n : List ℕ). Contains handed.nonces n → ⊥) (nonces_in old part new) nonce h.nonces among before
 
-  all_or : (stages : List WorldStage) (handed : Handed) (world : World) (f : IsWorldLife Basic meaning link world stages)
-      → HasWorldBreach Basic meaning link handed world stages f ⊎ AreHonest Basic meaning link handed world stages f
+  all_or : (stages : List WorldStage) (handed : Handed) (world : World) (f : IsWorldLife variant meaning link world stages)
+      → HasWorldBreach variant meaning link handed world stages f ⊎ AreHonest variant meaning link handed world stages f
   all_or [] handed world f = inr tt
   all_or (stage ∷ stages) handed world f = elim (honest_or handed (world stage.at) stage.part stage.after f.0) [
     | inl broken ↦ inl (inl broken)
-    | inr fine ↦ elim (all_or stages (handed_after Basic meaning link handed (world stage.at) stage.part stage.after f.0)
+    | inr fine ↦ elim (all_or stages (handed_after variant meaning link handed (world stage.at) stage.part stage.after f.0)
         (world_after world stage) f.1) [
           | inl broken ↦ inl (inr broken)
           | inr rest ↦ inr (fine, rest)
         ]
   ]
 
-  all_apart : (stages : List WorldStage) (handed : Handed) (world : World) (f : IsWorldLife Basic meaning link world stages)
-      → AreHonest Basic meaning link handed world stages f → HasWorldBreach Basic meaning link handed world stages f → ⊥
+  all_apart : (stages : List WorldStage) (handed : Handed) (world : World) (f : IsWorldLife variant meaning link world stages)
+      → AreHonest variant meaning link handed world stages f → HasWorldBreach variant meaning link handed world stages f → ⊥
   all_apart [] handed world f honest broken = broken
   all_apart (stage ∷ stages) handed world f honest (inl broken) =
       honest_apart handed (world stage.at) stage.part stage.after f.0 honest.0 broken
   all_apart (stage ∷ stages) handed world f honest (inr broken) =
-      all_apart stages (handed_after Basic meaning link handed (world stage.at) stage.part stage.after f.0) (world_after world stage) f.1
+      all_apart stages (handed_after variant meaning link handed (world stage.at) stage.part stage.after f.0) (world_after world stage) f.1
       honest.1 broken
 
 pub one_or_evidence : BasicWorldIsOne → WorldIsOneOrEvidence
 one_or_evidence one meaning lawful link world stages f start =
     elim (clash_or (instance_of Basic meaning link (world 0)) (world_messages Basic meaning link world stages f) [] []) [
       | inl clash ↦ inr (inl clash)
-      | inr clear ↦ elim (all_or meaning link stages (first_handed Basic meaning link world) world f) [
+      | inr clear ↦ elim (all_or Basic meaning link stages (first_handed Basic meaning link world) world f) [
         | inl broken ↦ inr (inr broken)
         | inr honest ↦ inl (one meaning lawful link world stages f start clear.0 honest)
       ]
@@ -166,4 +171,22 @@ no_premise meaning link world stages f clear honest (inl clash) =
     clash_apart (instance_of Basic meaning link (world 0)) (world_messages Basic meaning link world stages f) [] [] clear
     (λ opt. absurd (cc)) clash
 no_premise meaning link world stages f clear honest (inr broken) =
-    all_apart meaning link stages (first_handed Basic meaning link world) world f honest broken
+    all_apart Basic meaning link stages (first_handed Basic meaning link world) world f honest broken
+
+pub opt_one_or_evidence : OptWorldIsOne → OptWorldIsOneOrEvidence
+opt_one_or_evidence one meaning lawful link world stages f start told =
+    elim (clash_or (instance_of Opt meaning link (world 0)) (opt_world_messages meaning link world stages f)
+    (world_values meaning link world stages f) (world_batches meaning link world stages f)) [
+      | inl clash ↦ inr (inl clash)
+      | inr clear ↦ elim (all_or Opt meaning link stages (first_handed Opt meaning link world) world f) [
+        | inl broken ↦ inr (inr broken)
+        | inr honest ↦ inl (one meaning lawful link world stages f start told clear.0 (clear.1 refl) honest)
+      ]
+    ]
+
+pub opt_no_premise : OptEvidenceIsNoPremise
+opt_no_premise meaning link world stages f clear guarded honest (inl clash) =
+    clash_apart (instance_of Opt meaning link (world 0)) (opt_world_messages meaning link world stages f)
+    (world_values meaning link world stages f) (world_batches meaning link world stages f) clear (λ opt. guarded) clash
+opt_no_premise meaning link world stages f clear guarded honest (inr broken) =
+    all_apart Opt meaning link stages (first_handed Opt meaning link world) world f honest broken

@@ -30,17 +30,17 @@ use Rattle.mm_worlds.proofs.Orders.{known_back, order_invited}
 use Rattle.mm_worlds.proofs.Kept.{StandsInOrder, handed_more, kept_still}
 
 -- where an invitation writes, nothing lives and nothing waits
-record IsInvited (next : WaitingCell) (held : Option MovedCell) (bytes : List ℕ) : Type 0 where
-  is : bytes ≡ waiting_spelling next
-  away : IsLiveCell held → ⊥
-  other : reading_of held ≡ Ok (moved.Waiting next) → ⊥
+pub record IsInvited (next : WaitingCell) (held : Option MovedCell) (bytes : List ℕ) : Type 0 where
+  pub is : bytes ≡ waiting_spelling next
+  pub away : IsLiveCell held → ⊥
+  pub other : reading_of held ≡ Ok (moved.Waiting next) → ⊥
 
 writes_none : (test : Bool) (why : MoveRefusal) (ready : ReadyMove Invited) (answer : Invited) (bytes : List ℕ)
     → (if test then Err why else Ok (record { next = None; answer = answer })) ≡ Ok ready → ready.next ≡ Some bytes → ⊥
 writes_none true why ready answer bytes e n = absurd (cc)
 writes_none false why ready answer bytes e n = absurd (cc)
 
-invited_where : (next : WaitingCell) (held : Option MovedCell) (ready : ReadyMove Invited) (bytes : List ℕ)
+pub invited_where : (next : WaitingCell) (held : Option MovedCell) (ready : ReadyMove Invited) (bytes : List ℕ)
     → invitation_in next (reading_of held) ≡ Ok ready → ready.next ≡ Some bytes → IsInvited next held bytes
 invited_where next None ready bytes e n = record { is = cc; away = λ h. h; other = λ is. absurd (cc) }
 invited_where next (Some (moved.Retired c)) ready bytes e n = record { is = cc; away = λ h. h; other = λ is. absurd (cc) }

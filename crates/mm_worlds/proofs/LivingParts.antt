@@ -133,7 +133,7 @@ module _ (meaning : Meaning) (link : Link) (y : History) where
   keyed_genuine key [] g = tt
   keyed_genuine key (bytes ∷ issued) g = (g.0, keyed_genuine key issued g.1)
 
-  none_issued : (calls : List LifeCall) → AreRefused calls → snapshots_of calls ≡ []
+  pub none_issued : (calls : List LifeCall) → AreRefused calls → snapshots_of calls ≡ []
   none_issued [] r = refl
   none_issued (c ∷ calls) r = ap (λ (xs : List (List ℕ)). xs ++ snapshots_of calls) (by_gives c.gives r.0) ∙ none_issued calls r.1
     where
@@ -141,7 +141,7 @@ module _ (meaning : Meaning) (link : Link) (y : History) where
       by_gives (Err why) h = refl
       by_gives (Ok answer) h = absurd (cc)
 
-  first_genuine : (i : Instance) (issued : List (List ℕ)) (calls : List LifeCall) → AllByRecursion (IsGenuine i y) issued
+  pub first_genuine : (i : Instance) (issued : List (List ℕ)) (calls : List LifeCall) → AllByRecursion (IsGenuine i y) issued
       → AllByRecursion (IsUntagged i issued) (first_offers calls) → IsFirstGenuine i y calls
   first_genuine i issued [] g u = tt
   first_genuine i issued (c ∷ calls) g u = λ content right. each_at (IsGenuine i y) issued c.offer g (u.0 content right) content right

@@ -1,19 +1,19 @@
 -- The words that the definitions of this crate take from the crates below.
 pub use Rattle.mm_digest.specs.Messages.{start_message}
 pub use Rattle.mm_digest.specs.declared.variant.Variant.{Variant}
-pub use Rattle.mm_digest.specs.declared.variant.Variant.TheVariants.{Basic}
+pub use Rattle.mm_digest.specs.declared.variant.Variant.TheVariants.{Basic, Opt}
 pub use Rattle.mm_seal.specs.Cell.{blank_cell}
 pub use Rattle.mm_seal.specs.Snapshot.{Content}
 pub use Rattle.mm_seal.specs.declared.cell.CellFault.{CellFault}
 pub use Rattle.mm_platform.specs.Standing.{Standing}
-pub use Rattle.mm_module.specs.Batch.{normal_batch}
+pub use Rattle.mm_module.specs.Batch.{Batch, normal_batch}
 pub use Rattle.mm_module.specs.Meaning.{IsLawful, Meaning}
 pub use Rattle.mm_modules.specs.Modules.{meaning_of}
 pub use Rattle.mm_modules.specs.declared.any.AnyModule.{AnyModule}
 pub use Rattle.mm_model.specs.History.{History, first_history, requests_of}
 pub use Rattle.mm_model.specs.Instance.{Instance}
 pub use Rattle.mm_model.specs.InstanceWords.{instance_by}
-pub use Rattle.mm_model.specs.Messages.{IsClear}
+pub use Rattle.mm_model.specs.Messages.{AreNoGuards, IsClear}
 pub use Rattle.mm_model.specs.Standing.{IsGenuine, IsRight, StandsFor, issued_bytes}
 pub use Rattle.mm_call.specs.CallFinding.{right_content}
 pub use Rattle.mm_call.specs.CallPremises.{right_messages}
@@ -30,10 +30,13 @@ pub use Rattle.mm_move.specs.declared.cell.MovedCell.{MovedCell}
 pub use Rattle.mm_move.specs.declared.inviting.Invited.{Invited}
 pub use Rattle.mm_move.specs.declared.link.Link.{Link}
 pub use Rattle.mm_move.specs.declared.refusal.MoveRefusal.{MoveRefusal}
+pub use Rattle.mm_call.specs.ShownItems.{foreign_items}
+pub use Rattle.mm_recovery.specs.FirstStart.{first_history_on}
+pub use Rattle.mm_sides.specs.Premises.{offer_closing_messages}
 pub use Rattle.mm_sides.specs.Roles.{Blank, Live, Retired, Role, Waiting}
 pub use Rattle.mm_life.specs.Deeds.{LifeCall}
 pub use Rattle.mm_life.specs.OneList.{PartSteps, part_replies}
-pub use Rattle.mm_life.specs.Premises.{IsUntagged, call_batches, snapshots_of}
+pub use Rattle.mm_life.specs.Premises.{IsUntagged, bytes_unless_idle, call_batches, closing_messages, shown_messages, snapshots_of}
 pub use Rattle.mm_life.specs.Stages.{LifePart, PartLeads, part_calls}
 pub use Rattle.mm_store.specs.StoreStanding.{StoreStanding}
 pub use Rattle.mm_host.specs.declared.fault.SessionFault.{SessionFault}

@@ -1,8 +1,9 @@
 -- The evidence that one holds in hand of a world that doesn't meet its premises.
 use Rattle.std.specs.Prelude.{◌≡◌, ◌⊎◌, ℕ, List, [], ◌∷◌, Ok}
 use Rattle.std.specs.List.{Contains}
-use Rattle.mm_worlds.specs.Below.{Variant, Content, Standing, Meaning, IsRight, HasClash, right_ticket, TicketContent, Link}
+use Rattle.mm_worlds.specs.Below.{Variant, Opt, Content, Standing, Meaning, IsRight, HasClash, right_ticket, TicketContent, Link}
 use Rattle.mm_worlds.specs.Handed.{Handed, snapshots_under}
+use Rattle.mm_worlds.specs.OptPremises.{opt_world_messages, world_batches, world_values}
 use Rattle.mm_worlds.specs.Platforms.{instance_of, key_of}
 use Rattle.mm_worlds.specs.Premises.{handed_after, nonces_in, offers_in, tickets_offered, world_messages}
 use Rattle.mm_worlds.specs.Worlds.{IsWorldLife, World, WorldPart, WorldPartLeads, WorldStage, world_after}
@@ -46,3 +47,13 @@ HasWorldEvidence variant meaning link handed world stages f =
     HasClash (instance_of variant meaning link (world 0))
     (world_messages variant meaning link world stages f) [] []
     ⊎ HasWorldBreach variant meaning link handed world stages f
+
+-- Opt: two messages of the world clash, or a value of others is the guard of a batch that was
+-- asked; or one of its stages breaks something.
+abbrev pub HasOptWorldEvidence : (meaning : Meaning) (link : Link) (handed : Handed)
+    (world : World) (stages : List WorldStage) → IsWorldLife Opt meaning link world stages → Type 0
+HasOptWorldEvidence meaning link handed world stages f =
+    HasClash (instance_of Opt meaning link (world 0))
+    (opt_world_messages meaning link world stages f)
+    (world_values meaning link world stages f) (world_batches meaning link world stages f)
+    ⊎ HasWorldBreach Opt meaning link handed world stages f

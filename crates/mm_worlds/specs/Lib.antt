@@ -3,6 +3,7 @@ pub mod Platforms
 pub mod Handed
 pub mod Worlds
 pub mod Premises
+pub mod OptPremises
 pub mod OneWorld
 pub mod Evidence
 pub mod Laws

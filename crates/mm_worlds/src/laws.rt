@@ -1,6 +1,6 @@
 //! The laws of a world, each the contract of a function that does nothing, or calls what it needs.
 
-ghost use Rattle.mm_worlds.specs.Laws.{BasicWorldIsOne, EvidenceIsNoPremise, WorldIsOneOrEvidence, WorldsKeepPromises};
+ghost use Rattle.mm_worlds.specs.Laws.{BasicWorldIsOne, EvidenceIsNoPremise, OptEvidenceIsNoPremise, OptWorldIsOne, OptWorldIsOneOrEvidence, WorldIsOneOrEvidence, WorldsKeepPromises};
 
 use mm_life::parts_are_refused_elsewhere;
 use mm_schedule::laws::runs_keep_promises;
@@ -11,6 +11,14 @@ use mm_schedule::laws::runs_keep_promises;
 /// which stands for a history of this list, or on its way.
 pub fn basic_world_is_one()
     ensures { BasicWorldIsOne }
+{
+    parts_are_refused_elsewhere();
+}
+
+/// Opt: the same, from a register that others had extended. A platform's own register is taken over
+/// where the module enters.
+pub fn opt_world_is_one()
+    ensures { OptWorldIsOne }
 {
     parts_are_refused_elsewhere();
 }
@@ -27,6 +35,20 @@ pub fn world_is_one_or_evidence()
 /// A world that meets the premises gives no evidence.
 pub fn evidence_is_no_premise()
     ensures { EvidenceIsNoPremise }
+{}
+
+/// Opt: with no premise but the start, and registers that are told where tickets are offered: it is
+/// one world, or one holds evidence in hand, besides what it is in Basic a value of others that is
+/// the guard of a batch.
+pub fn opt_world_is_one_or_evidence()
+    ensures { OptWorldIsOneOrEvidence }
+{
+    opt_world_is_one();
+}
+
+/// In Opt, too, a world that meets the premises gives no evidence.
+pub fn opt_evidence_is_no_premise()
+    ensures { OptEvidenceIsNoPremise }
 {}
 
 /// What a module promises of one run holds over all platforms together: a limiter gives no more

@@ -7,5 +7,6 @@ mod laws;
 
 pub use crossing::{Crossing, cross_over};
 pub use laws::{
-    basic_world_is_one, evidence_is_no_premise, world_is_one_or_evidence, worlds_keep_promises,
+    basic_world_is_one, evidence_is_no_premise, opt_evidence_is_no_premise, opt_world_is_one,
+    opt_world_is_one_or_evidence, world_is_one_or_evidence, worlds_keep_promises,
 };

@@ -1,0 +1,292 @@
+-- Opt: an acceptance keeps the order of a world.
+use Rattle.std.specs.List.{AllByRecursion, Contains}
+use Rattle.std.specs.Prelude.{◌||◌, IsSome, length, not}
+use Rattle.std.specs.Str.{bytes_eq}
+use Rattle.std.proofs.Common.{◌≡◌, ◌∙◌, ◌++◌, ℕ, Bool, true, false, List, [], Option, None, Some, Result, Ok, Err, map, refl, sym, ap, subst, inl, inr}
+use Rattle.std.proofs.lemmas.List.{append-nil}
+use Rattle.mm_digest.specs.declared.variant.Variant.TheVariants.{Opt}
+use Rattle.mm_seal.specs.Cell.{cell_spelling}
+use Rattle.mm_seal.specs.SealLaws.{sealed_once}
+use Rattle.mm_seal.specs.Snapshot.{Content, sealed_snapshot_of}
+use Rattle.mm_seal.specs.declared.cell.Cell.{Cell}
+use Rattle.mm_platform.specs.Standing.{Item, Standing, item_values}
+use Rattle.mm_module.specs.Batch.{Batch}
+use Rattle.mm_module.specs.Meaning.{IsLawful, Meaning}
+use Rattle.mm_model.specs.History.{History, RegisterEntry, Value, requests_of}
+use Rattle.mm_model.specs.ListLaws.{each_append}
+use Rattle.mm_model.specs.Messages.{AreNoGuards, IsClear}
+use Rattle.mm_model.specs.Places.{NamesPosition}
+use Rattle.mm_model.specs.Standing.{cell_of}
+use Rattle.mm_call.proofs.Above.{each_at, within_items}
+use Rattle.mm_move.specs.Cells.{moved_cell_of}
+use Rattle.mm_move.specs.Moves.{MovePromise}
+use Rattle.mm_move.specs.Orders.{acceptance_again_by, acceptance_by, acceptance_in, acceptance_of, is_barred, is_other, live_cell_from, right_ticket}
+use Rattle.mm_move.specs.Tickets.{TicketContent, summary_in}
+use Rattle.mm_move.specs.declared.accepting.Accepted.{Accepted}
+use Rattle.mm_move.specs.declared.cell.MovedCell.{MovedCell}
+use Rattle.mm_move.specs.declared.cell.MovedCell.TheVariants as moved
+use Rattle.mm_move.specs.declared.cell.WaitingCell.{WaitingCell}
+use Rattle.mm_move.specs.declared.link.Link.{Link}
+use Rattle.mm_move.specs.declared.ready.ReadyMove.{ReadyMove}
+use Rattle.mm_move.specs.declared.refusal.MoveRefusal.{MoveRefusal}
+use Rattle.mm_move.proofs.Above.{bytes_tell}
+use Rattle.mm_worlds.specs.Handed.{Handed, IsGenuineUnder, accepted_snapshots}
+use Rattle.mm_worlds.specs.Platforms.{key_of, role_of}
+use Rattle.mm_worlds.proofs.Between.{changed_at}
+use Rattle.mm_worlds.proofs.Cells.{IsAwaited, reading_of}
+use Rattle.mm_worlds.proofs.Outcomes.{MoveOutcome, made, refused, repeated}
+use Rattle.mm_worlds.proofs.OptBeside.{IsBeside, move_beside}
+use Rattle.mm_worlds.proofs.OptBetween.{IsGoodPaper, IsGoodTicket, IsInOrder, LeftFor, anchor_at, instance_at, papers_on}
+use Rattle.mm_worlds.proofs.OptCells.{HoldsCell, HoldsOwn, move_comes}
+use Rattle.mm_worlds.proofs.OptKept.{StandsInOrder, given_snapshots}
+use Rattle.mm_worlds.proofs.OptLiving.{IsShown, Stepped, all_named, is_here, kept_quiet}
+use Rattle.mm_worlds.proofs.OptNames.{end_named, names_cross, names_key, register_on}
+use Rattle.mm_worlds.proofs.OptOrders.{arrived, order_arrived}
+use Rattle.mm_worlds.proofs.OptPapers.{anchor_sized, at_anchor, ticket_formed}
+use Rattle.mm_worlds.proofs.Papers.{not_false, passes}
+
+neither : (a b : Bool) → (a || b) ≡ false → (a ≡ false) × (b ≡ false)
+neither true b e = absurd (cc)
+neither false b e = (refl, e)
+
+told_items : (items : Option (List Item)) → IsSome items → (xs : List Item) × (items ≡ Some xs)
+told_items None told = absurd (cc)
+told_items (Some xs) told = (xs, refl)
+
+module _ (meaning : Meaning) (link : Link) (ticket : List ℕ) where
+  -- what an acceptance is ready with: it answers with what a right ticket says
+  record Answers (key : List ℕ) (ready : ReadyMove Accepted) : Type 0 where
+    content : TicketContent
+    right : right_ticket meaning Opt link.key ticket ≡ Ok content
+    answer_is : ready.answer ≡ acceptance_of key content.content
+
+  record Enters (c : WaitingCell) (ready : ReadyMove Accepted) : Type 0 where
+    answers : Answers c.key ready
+    nonce : answers.content.nonce ≡ c.nonce
+    next_is : ready.next ≡ Some (cell_spelling (live_cell_from c answers.content.content))
+
+  enters_by : (c : WaitingCell) (ready : ReadyMove Accepted) (read : Result TicketContent MoveRefusal)
+      → right_ticket meaning Opt link.key ticket ≡ read → acceptance_by c read ≡ Ok ready → Enters c ready
+  enters_by c ready (Err why) is e = absurd (cc)
+  enters_by c ready (Ok content) is e =
+      let a = passes (not (bytes_eq content.nonce c.nonce)) _ _ ready e in
+      let same : record { next = Some (cell_spelling (live_cell_from c content.content)); answer = acceptance_of c.key content.content }
+      ≡ ready = (let both = a.1 in cc) in
+      record {
+        answers = record { content = content; right = is; answer_is = sym (ap (λ (r : ReadyMove Accepted). r.answer) same) };
+        nonce = bytes_tell content.nonce c.nonce (not_false (bytes_eq content.nonce c.nonce) a.0);
+        next_is = sym (ap (λ (r : ReadyMove Accepted). r.next) same);
+      }
+
+  enters_ready : (c : WaitingCell) (ready : ReadyMove Accepted) → acceptance_in meaning Opt link ticket (Ok (moved.Waiting c)) ≡ Ok ready
+      → Enters c ready
+  enters_ready c ready e =
+      let own = passes (is_other Opt meaning.id c.variant c.module) _ _ ready e in
+      let barred = passes (is_barred Opt c.barrier link) _ _ ready own.1 in
+      enters_by c ready (right_ticket meaning Opt link.key ticket) refl barred.1
+
+  -- it entered before, and the module is where the ticket says
+  record Again (c : Cell) (ready : ReadyMove Accepted) : Type 0 where
+    answers : Answers c.key ready
+    shut : c.flag ≡ false
+    summary : (summary_in answers.content.content.place).bytes ≡ c.summary.bytes
+    next_is : ready.next ≡ None
+
+  again_by : (c : Cell) (ready : ReadyMove Accepted) (read : Result TicketContent MoveRefusal)
+      → right_ticket meaning Opt link.key ticket ≡ read → acceptance_again_by c read ≡ Ok ready → Again c ready
+  again_by c ready (Err why) is e = absurd (cc)
+  again_by c ready (Ok content) is e =
+      let a = passes (c.flag || not (bytes_eq (summary_in content.content.place).bytes c.summary.bytes)) _ _ ready e in
+      let tests = neither c.flag (not (bytes_eq (summary_in content.content.place).bytes c.summary.bytes)) a.0 in
+      let same : record { next = None; answer = acceptance_of c.key content.content } ≡ ready = (let both = a.1 in cc) in
+      record {
+        answers = record { content = content; right = is; answer_is = sym (ap (λ (r : ReadyMove Accepted). r.answer) same) };
+        shut = tests.0;
+        summary = bytes_tell (summary_in content.content.place).bytes c.summary.bytes
+            (not_false (bytes_eq (summary_in content.content.place).bytes c.summary.bytes) tests.1);
+        next_is = sym (ap (λ (r : ReadyMove Accepted). r.next) same);
+      }
+
+  again_ready : (c : Cell) (ready : ReadyMove Accepted) → acceptance_in meaning Opt link ticket (Ok (moved.Live c)) ≡ Ok ready
+      → Again c ready
+  again_ready c ready e =
+      let own = passes (is_other Opt meaning.id c.variant c.module) _ _ ready e in
+      let barred = passes (is_barred Opt c.barrier link) _ _ ready own.1 in
+      again_by c ready (right_ticket meaning Opt link.key ticket) refl barred.1
+
+-- the cell of one that enters stands for the history
+entered_cell : (meaning : Meaning) (link : Link) (y : History) (items : List RegisterEntry) (c : WaitingCell) (content : Content)
+    → c.variant ≡ Opt → c.module ≡ meaning.id → c.barrier ≡ link.barrier → y.is_open ≡ false
+    → (summary_in content.place).bytes ≡ anchor_at meaning link y
+    → live_cell_from c content ≡ cell_of (instance_at meaning link c.key) (record y { items = items })
+entered_cell meaning link y items c content of_opt own barrier shut summary = λ j. record {
+  variant = of_opt j;
+  «module» = own j;
+  flag = sym shut j;
+  summary = record { bytes = summary j };
+  key = c.key;
+  barrier = barrier j;
+}
+
+module _ (meaning : Meaning) (lawful : IsLawful meaning) (link : Link) (all others : List (List ℕ)) (asked : List Batch)
+    (clear : IsClear all) (guarded : AreNoGuards link.barrier others asked) (world : ℕ → Standing) (y : History) (handed : Handed)
+    (s : StandsInOrder meaning link all others asked world y handed) (at : ℕ) (ticket : List ℕ) (new : Standing)
+    (own : (content : TicketContent) → right_ticket meaning Opt link.key ticket ≡ Ok content → Contains handed.tickets ticket) where
+  abbrev old : Standing
+  old = world at
+
+  abbrev Kept : Result Accepted MoveRefusal → Type 0
+  Kept result =
+      Stepped meaning lawful link all others asked clear guarded world y handed s at new (accepted_snapshots (key_of old) result) [] []
+      (λ after. after ≡ requests_of y.batches)
+
+  abbrev Left : Option (List ℕ) → List ℕ → List ℕ → Type 0
+  Left going = LeftFor meaning link s.cells handed.nonces going y
+
+  -- the ticket was handed out, so it is good
+  good : (content : TicketContent) → right_ticket meaning Opt link.key ticket ≡ Ok content
+      → IsGoodTicket meaning link all (Left s.going) y content
+  good content right =
+      each_at (IsGoodPaper meaning link all (Left s.going) y) handed.tickets ticket s.papers (own content right) content right
+
+  -- where it says the module's anchor, and no segment is open, it names the end
+  ends : (content : TicketContent) → right_ticket meaning Opt link.key ticket ≡ Ok content → y.is_open ≡ false
+      → (summary_in content.content.place).bytes ≡ anchor_at meaning link y
+      → NamesPosition (instance_at meaning link link.key) y content.content
+  ends content right shut summary =
+      let g = good content right in
+      end_named meaning link.key link.barrier all others asked clear guarded y shut s.within g.offered content.content
+      (summary_in content.content.place) g.names g.listed summary g.at g.position g.state
+      (at_anchor meaning link content (ticket_formed meaning link ticket content right))
+
+  -- what is answered is genuine
+  genuine : (z : History) (key : List ℕ) (ready : ReadyMove Accepted) (a : Answers meaning link ticket key ready)
+      → NamesPosition (instance_at meaning link link.key) z a.content.content → (accepted : Accepted)
+      → accepted ≡ ready.answer → IsGenuineUnder Opt meaning link z (record { key = key_of old; bytes = accepted.snapshot })
+  genuine z key ready a names accepted is said right =
+      let bytes : accepted.snapshot ≡ sealed_snapshot_of key a.content.content =
+      ap (λ (x : Accepted). x.snapshot) (is ∙ a.answer_is) in
+      let formed = ticket_formed meaning link ticket a.content a.right in
+      let same : a.content.content ≡ said =
+      sealed_once key (key_of old) a.content.content said formed.is.content right.formed (sym bytes ∙ right.sealed) in
+      subst (λ (x : Content). NamesPosition (instance_at meaning link (key_of old)) z x) same
+      (names_key meaning link.key (key_of old) link.barrier z a.content.content names)
+
+  module _ (c : WaitingCell) (e : s.cells at ≡ Some (moved.Waiting c)) (h : HoldsOwn link.barrier meaning.id old (moved.Waiting c))
+      (ready : ReadyMove Accepted) (r : Enters meaning link ticket c ready) (result : Result Accepted MoveRefusal)
+      (gives : (accepted : Accepted) → result ≡ Ok accepted → accepted ≡ ready.answer)
+      (wrote : new.cell ≡ Some (cell_spelling (live_cell_from c r.answers.content.content))) (items : List Item)
+      (told : new.items ≡ Some items) where
+    abbrev content : TicketContent
+    content = r.answers.content
+
+    -- the history, with what this platform's register shows
+    abbrev entries : List RegisterEntry
+    entries = map Value (item_values items)
+
+    abbrev z : History
+    z = record y { items = entries }
+
+    waits : IsAwaited (s.cells at) content.nonce
+    waits = subst (λ (x : Option MovedCell). IsAwaited x content.nonce) (sym e) (sym r.nonce)
+
+    crossed : (said : Content) → NamesPosition (instance_at meaning link link.key) y said
+        → NamesPosition (instance_at meaning link link.key) z said
+    crossed said n = names_cross meaning link.key link.key link.barrier y entries said n
+
+    entered : (going : List ℕ) → IsInOrder meaning link world s.cells (Some going) y handed.nonces
+        → AllByRecursion (IsGoodPaper meaning link all (Left (Some going)) y) handed.tickets → content.nonce ≡ going
+        → (summary_in content.content.place).bytes ≡ anchor_at meaning link y → Kept result
+    entered going o papers for_it summary =
+        let shut : y.is_open ≡ false = o.placed.shut in
+        let cell : live_cell_from c content.content ≡ cell_of (instance_at meaning link c.key) z =
+        entered_cell meaning link y entries c content.content h.own.0 h.own.1 h.own.2 shut summary in
+        let sized : length (anchor_at meaning link y) ≡ 32 =
+        subst (λ (x : List ℕ). length x ≡ 32) summary
+        (anchor_sized meaning link content (ticket_formed meaning link ticket content r.answers.right)) in
+        let awaited : c.nonce ≡ going = sym r.nonce ∙ for_it in
+        let register = register_on (instance_at meaning link link.key) y new items told in
+        let After : List ℕ → List ℕ → Type 0 =
+        LeftFor meaning link (changed_at s.cells at (Some (moved.Live (cell_of (instance_at meaning link c.key) z))))
+        (handed.nonces ++ []) None z in
+        let names = ends content r.answers.right shut summary in
+        record {
+          after = z;
+          stands = record {
+            cells = changed_at s.cells at (Some (moved.Live (cell_of (instance_at meaning link c.key) z)));
+            long = s.long;
+            going = None;
+            order = order_arrived meaning link world s.cells y handed.nonces at new c.key z register going c [] e awaited (record {
+              formed = record { summary = sized; key = h.formed.key; barrier = s.long; variant = tt };
+              own = (refl, refl, refl);
+              told = wrote ∙ ap (λ (x : Cell). Some (cell_spelling x)) cell;
+            }) o;
+            within = within_items meaning link.key link.barrier all others asked y entries shut s.within;
+            named = each_append (IsGenuineUnder Opt meaning link z) handed.snapshots (accepted_snapshots (key_of old) result)
+                (all_named meaning link link.key y z crossed handed.snapshots s.named)
+                (given_snapshots meaning link all others asked (IsGenuineUnder Opt meaning link z) (key_of old) result
+                (λ accepted is. genuine z c.key ready r.answers (crossed content.content names) accepted (gives accepted is)));
+            papers = rw (append-nil handed.tickets)
+                (papers_on meaning link all (Left (Some going)) After y z
+                (arrived meaning link world s.cells y handed.nonces at new c.key z register going c [] e awaited o) crossed handed.tickets
+                papers);
+          };
+          steps = refl;
+        }
+
+    enters : (going : Option (List ℕ)) → IsInOrder meaning link world s.cells going y handed.nonces
+        → AllByRecursion (IsGoodPaper meaning link all (Left going) y) handed.tickets
+        → Left going content.nonce (summary_in content.content.place).bytes → Kept result
+    enters None o papers spent = absurd (spent.awaited at waits)
+    enters (Some going) o papers (inl spent) = absurd (spent.awaited at waits)
+    enters (Some going) o papers (inr goes) = entered going o papers goes.0 goes.1
+
+  answer_of : (result : Result Accepted MoveRefusal) (answer accepted : Accepted) → result ≡ Ok answer → result ≡ Ok accepted
+      → accepted ≡ answer
+  answer_of result answer accepted e f = cc
+
+  module _ (beside : IsBeside old new)
+      (shown : IsShown meaning lawful link all others asked clear guarded world y handed s at new [] [] (role_of old))
+      (told : IsSome new.items) where
+    still : (result : Result Accepted MoveRefusal) → new.cell ≡ old.cell
+        → ((accepted : Accepted) → result ≡ Ok accepted
+        → IsGenuineUnder Opt meaning link y (record { key = key_of old; bytes = accepted.snapshot })) → Kept result
+    still result same named =
+        kept_quiet meaning lawful link all others asked clear guarded world y handed s at new (accepted_snapshots (key_of old) result) [] []
+        same beside shown
+        (given_snapshots meaning link all others asked (IsGenuineUnder Opt meaning link y) (key_of old) result named) tt
+
+    comes : (held : Option MovedCell) → s.cells at ≡ held → HoldsCell link.barrier meaning.id old held
+        → (result : Result Accepted MoveRefusal)
+        → MoveOutcome (acceptance_in meaning Opt link ticket (reading_of held)) old new result → Kept result
+    comes held e h result (refused same none) = still result same (λ accepted is. absurd (none accepted is))
+    comes None e h result (repeated ready f n same gives) = absurd (cc)
+    comes None e h result (made ready bytes f n wrote gives) = absurd (cc)
+    comes (Some (moved.Retired c)) e h result (repeated ready f n same gives) = absurd (cc)
+    comes (Some (moved.Retired c)) e h result (made ready bytes f n wrote gives) = absurd (cc)
+    comes (Some (moved.Waiting c)) e h result (repeated ready f n same gives) =
+        let r = enters_ready meaning link ticket c ready f in
+        let clash : None ≡ Some (cell_spelling (live_cell_from c r.answers.content.content)) = sym n ∙ r.next_is in absurd (cc)
+    comes (Some (moved.Waiting c)) e h result (made ready bytes f n wrote gives) =
+        let r = enters_ready meaning link ticket c ready f in
+        let t = told_items new.items told in
+        enters c e h ready r result gives (wrote ∙ sym n ∙ r.next_is) t.0 t.1 s.going s.order s.papers
+        (good r.answers.content r.answers.right).left
+    comes (Some (moved.Live c)) e h result (made ready bytes f n wrote gives) =
+        let r = again_ready meaning link ticket c ready f in
+        let clash : None ≡ Some bytes = sym r.next_is ∙ n in absurd (cc)
+    comes (Some (moved.Live c)) e h result (repeated ready f n same gives) =
+        let r = again_ready meaning link ticket c ready f in
+        let i = is_here meaning lawful link all others asked clear guarded world y handed s at new c e h in
+        let names = ends r.answers.content r.answers.right (sym (ap (λ (x : Cell). x.flag) i.cell) ∙ r.shut)
+        (r.summary ∙ ap (λ (x : Cell). x.summary.bytes) i.cell) in
+        still result same (λ accepted is.
+        genuine y c.key ready r.answers names accepted (answer_of result ready.answer accepted gives is))
+
+  pub kept_accepting : (result : Result Accepted MoveRefusal)
+      → IsShown meaning lawful link all others asked clear guarded world y handed s at new [] [] (role_of old) → IsSome new.items
+      → MovePromise (λ bytes. acceptance_in meaning Opt link ticket (moved_cell_of bytes)) old new result → Kept result
+  kept_accepting result shown told m =
+      comes (move_beside (λ bytes. acceptance_in meaning Opt link ticket (moved_cell_of bytes)) old new result m.moves) shown told
+      (s.cells at) refl (s.order.holds at) result
+      (move_comes link.barrier meaning.id (acceptance_in meaning Opt link ticket) old new (s.cells at) result (s.order.holds at) m.moves)

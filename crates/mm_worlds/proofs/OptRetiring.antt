@@ -1,0 +1,221 @@
+-- Opt: a retirement keeps the order of a world.
+use Rattle.std.specs.Prelude.{length, not}
+use Rattle.std.specs.Str.{bytes_eq}
+use Rattle.std.proofs.Common.{◌≡◌, ◌∙◌, ◌++◌, ℕ, true, false, List, [], Option, None, Some, Result, Ok, Err, refl, sym, ap, subst, inr}
+use Rattle.std.proofs.lemmas.List.{append-nil}
+use Rattle.mm_digest.specs.declared.digest.Digest.{Digest}
+use Rattle.mm_digest.specs.declared.variant.Variant.TheVariants.{Opt}
+use Rattle.mm_seal.specs.Snapshot.{Content}
+use Rattle.mm_seal.specs.declared.cell.Cell.{Cell}
+use Rattle.mm_platform.specs.Standing.{Standing}
+use Rattle.mm_module.specs.Batch.{Batch}
+use Rattle.mm_module.specs.Meaning.{IsLawful, Meaning}
+use Rattle.mm_model.specs.History.{History, requests_of}
+use Rattle.mm_model.specs.ListLaws.{each_append}
+use Rattle.mm_model.specs.Messages.{AreMessagesIn, AreNoGuards, IsClear}
+use Rattle.mm_model.specs.Standing.{IsGenuine}
+use Rattle.mm_move.specs.Cells.{moved_cell_of, retired_spelling}
+use Rattle.mm_move.specs.Moves.{MovePromise}
+use Rattle.mm_move.specs.Orders.{is_barred, is_other, is_place_at, retired_cell_from, retirement_by, retirement_in, right_offer, ticket_for}
+use Rattle.mm_move.specs.Tickets.{sealed_ticket}
+use Rattle.mm_move.specs.declared.cell.MovedCell.{MovedCell}
+use Rattle.mm_move.specs.declared.cell.MovedCell.TheVariants as moved
+use Rattle.mm_move.specs.declared.cell.RetiredCell.{RetiredCell}
+use Rattle.mm_move.specs.declared.link.Link.{Link}
+use Rattle.mm_move.specs.declared.ready.ReadyMove.{ReadyMove}
+use Rattle.mm_move.specs.declared.refusal.MoveRefusal.{MoveRefusal}
+use Rattle.mm_move.proofs.Above.{bytes_tell}
+use Rattle.mm_outcome.proofs.Above.{said_of}
+use Rattle.mm_sides.specs.Premises.{messages_of_closing, offer_closing_messages}
+use Rattle.mm_worlds.specs.Handed.{Handed, given_tickets}
+use Rattle.mm_worlds.specs.Platforms.{key_of, role_of}
+use Rattle.mm_worlds.proofs.Between.{HasLeft, changed_at}
+use Rattle.mm_worlds.proofs.Cells.{reading_of}
+use Rattle.mm_worlds.proofs.Outcomes.{MoveOutcome, made, refused, repeated}
+use Rattle.mm_worlds.proofs.OptBeside.{IsBeside, move_beside}
+use Rattle.mm_worlds.proofs.OptBetween.{IsGoodPaper, LeftFor, anchor_at, instance_at, papers_on}
+use Rattle.mm_worlds.proofs.OptCells.{HoldsCell, HoldsOwn, key_held, move_comes}
+use Rattle.mm_worlds.proofs.OptKept.{StandsInOrder, given_papers}
+use Rattle.mm_worlds.proofs.OptLiving.{IsShown, Stepped, is_here, kept_quiet}
+use Rattle.mm_worlds.proofs.OptNames.{names_key}
+use Rattle.mm_worlds.proofs.OptOrders.{left_goes, order_left}
+use Rattle.mm_worlds.proofs.OptPapers.{given_says, offer_is_right}
+use Rattle.mm_worlds.proofs.Papers.{not_false, passes}
+use Rattle.mm_worlds.proofs.Retiring.{IsOrWas}
+
+module _ (meaning : Meaning) (link : Link) (nonce offer : List ℕ) where
+  -- what a retirement is ready with
+  record IsReady (key : List ℕ) (summary : Digest) (next : Option (List ℕ)) (ready : ReadyMove (List ℕ)) : Type 0 where
+    content : Content
+    right : right_offer meaning Opt key offer ≡ Ok content
+    at : is_place_at summary content.place ≡ true
+    next_is : ready.next ≡ next
+    answer_is : ready.answer ≡ sealed_ticket link.key (ticket_for Opt nonce summary content)
+
+  ready_by : (key : List ℕ) (summary : Digest) (next : Option (List ℕ)) (ready : ReadyMove (List ℕ))
+      (offered : Result Content MoveRefusal) → right_offer meaning Opt key offer ≡ offered
+      → retirement_by Opt link nonce summary next offered ≡ Ok ready → IsReady key summary next ready
+  ready_by key summary next ready (Err why) is e = absurd (cc)
+  ready_by key summary next ready (Ok content) is e =
+      let a = passes (not (is_place_at summary content.place)) _ _ ready e in
+      let same : record { next = next; answer = sealed_ticket link.key (ticket_for Opt nonce summary content) } ≡ ready =
+      (let both = a.1 in cc) in
+      record {
+        content = content;
+        right = is;
+        at = not_false (is_place_at summary content.place) a.0;
+        next_is = sym (ap (λ (r : ReadyMove (List ℕ)). r.next) same);
+        answer_is = sym (ap (λ (r : ReadyMove (List ℕ)). r.answer) same);
+      }
+
+  leaves_ready : (c : Cell) (ready : ReadyMove (List ℕ)) → retirement_in meaning Opt link nonce offer (Ok (moved.Live c)) ≡ Ok ready
+      → (c.flag ≡ false) × IsReady c.key c.summary (Some (retired_spelling (retired_cell_from c nonce))) ready
+  leaves_ready c ready e =
+      let own = passes (is_other Opt meaning.id c.variant c.module) _ _ ready e in
+      let barred = passes (is_barred Opt c.barrier link) _ _ ready own.1 in
+      let shut = passes c.flag _ _ ready barred.1 in (
+        shut.0,
+        ready_by c.key c.summary (Some (retired_spelling (retired_cell_from c nonce))) ready
+            (right_offer meaning Opt c.key offer) refl shut.1,
+      )
+
+  again_ready : (c : RetiredCell) (ready : ReadyMove (List ℕ))
+      → retirement_in meaning Opt link nonce offer (Ok (moved.Retired c)) ≡ Ok ready
+      → (c.nonce ≡ nonce) × IsReady c.key c.summary None ready
+  again_ready c ready e =
+      let own = passes (is_other Opt meaning.id c.variant c.module) _ _ ready e in
+      let same = passes (not (bytes_eq c.nonce nonce)) _ _ ready own.1 in (
+        bytes_tell c.nonce nonce (not_false (bytes_eq c.nonce nonce) same.0),
+        ready_by c.key c.summary None ready (right_offer meaning Opt c.key offer) refl same.1,
+      )
+
+  -- what is asked of its offer: it is genuine, and the closing of its segment is listed
+  pub record IsFineOffer (all : List (List ℕ)) (y : History) (key : List ℕ) : Type 0 where
+    pub genuine : IsGenuine (instance_at meaning link key) y offer
+    pub listed : AreMessagesIn (offer_closing_messages (instance_at meaning link key) (Some offer)) all
+
+  -- so the ticket is good
+  paper_good : (all : List (List ℕ)) (Left : List ℕ → List ℕ → Type 0) (y : History) (long : length nonce ≡ 32) (key : List ℕ)
+      (summary : Digest) (sized : length summary.bytes ≡ 32) (next : Option (List ℕ)) (ready : ReadyMove (List ℕ))
+      (r : IsReady key summary next ready) → IsFineOffer all y key → Left nonce summary.bytes → (ticket : List ℕ)
+      → ticket ≡ ready.answer → IsGoodPaper meaning link all Left y ticket
+  paper_good all Left y long key summary sized next ready r fine left ticket is content right =
+      let formed = offer_is_right meaning key link.barrier offer r.content r.right in
+      let sealed : ticket ≡ sealed_ticket link.key (ticket_for Opt nonce summary r.content) = is ∙ r.answer_is in
+      let says : ticket_for Opt nonce summary r.content ≡ content =
+      given_says meaning link nonce long summary sized r.content formed.formed formed.id content (rw sealed at right) in
+      rw (sym says) (record {
+        offered = r.content;
+        names = names_key meaning key link.key link.barrier y r.content (fine.genuine r.content formed);
+        listed = subst (λ (c : Option Content). AreMessagesIn (messages_of_closing c) all)
+            (said_of (instance_at meaning link key) offer r.content formed) fine.listed;
+        position = refl;
+        state = refl;
+        at = r.at;
+        left = left;
+      })
+
+module _ (meaning : Meaning) (lawful : IsLawful meaning) (link : Link) (all others : List (List ℕ)) (asked : List Batch)
+    (clear : IsClear all) (guarded : AreNoGuards link.barrier others asked) (world : ℕ → Standing) (y : History) (handed : Handed)
+    (s : StandsInOrder meaning link all others asked world y handed) (at : ℕ) (nonce offer : List ℕ) (new : Standing)
+    (long : length nonce ≡ 32) where
+  abbrev old : Standing
+  old = world at
+
+  abbrev Kept : Result (List ℕ) MoveRefusal → Type 0
+  Kept result =
+      Stepped meaning lawful link all others asked clear guarded world y handed s at new [] (given_tickets result) []
+      (λ after. after ≡ requests_of y.batches)
+
+  abbrev Left : Option (List ℕ) → List ℕ → List ℕ → Type 0
+  Left going = LeftFor meaning link s.cells handed.nonces going y
+
+  abbrev Fine : Type 0
+  Fine = IsFineOffer meaning link nonce offer all y (key_of old)
+
+  -- the cell that it writes
+  leaves : (c : Cell) → s.cells at ≡ Some (moved.Live c) → HoldsOwn link.barrier meaning.id old (moved.Live c) → Fine
+      → (ready : ReadyMove (List ℕ)) → c.flag ≡ false
+      → IsReady meaning link nonce offer c.key c.summary (Some (retired_spelling (retired_cell_from c nonce))) ready
+      → (result : Result (List ℕ) MoveRefusal) → ((ticket : List ℕ) → result ≡ Ok ticket → ticket ≡ ready.answer)
+      → new.cell ≡ Some (retired_spelling (retired_cell_from c nonce)) → Kept result
+  leaves c e h fine ready flag r result gives wrote =
+      let i = is_here meaning lawful link all others asked clear guarded world y handed s at new c e h in
+      let shut : y.is_open ≡ false = sym (ap (λ (x : Cell). x.flag) i.cell) ∙ flag in
+      let summary : c.summary.bytes ≡ anchor_at meaning link y = ap (λ (x : Cell). x.summary.bytes) i.cell in
+      let gone : RetiredCell = retired_cell_from c nonce in
+      let key : key_of old ≡ c.key = key_held link.barrier meaning.id old (moved.Live c) h in
+      let After : List ℕ → List ℕ → Type 0 =
+      LeftFor meaning link (changed_at s.cells at (Some (moved.Retired gone))) (handed.nonces ++ []) (Some nonce) y in
+      record {
+        after = y;
+        stands = record {
+          cells = changed_at s.cells at (Some (moved.Retired gone));
+          long = s.long;
+          going = Some nonce;
+          order = order_left meaning link world s.cells y handed.nonces at new gone summary [] shut i.live (record {
+            formed = record { summary = h.formed.summary; key = h.formed.key; nonce = long };
+            own = (h.own.0, h.own.1);
+            told = wrote;
+          }) i.order;
+          within = s.within;
+          named = rw (append-nil handed.snapshots) s.named;
+          papers = each_append (IsGoodPaper meaning link all After y) handed.tickets (given_tickets result)
+              (papers_on meaning link all (Left None) After y y
+              (left_goes meaning link world s.cells y handed.nonces at new gone summary [])
+              (λ content n. n) handed.tickets (i.papers handed.tickets s.papers))
+              (given_papers meaning link all others asked (IsGoodPaper meaning link all After y) result (λ ticket is.
+              paper_good meaning link nonce offer all After y long c.key c.summary h.formed.summary
+              (Some (retired_spelling gone)) ready r (subst (IsFineOffer meaning link nonce offer all y) key fine) (inr (refl, summary))
+              ticket (gives ticket is)));
+        };
+        steps = refl;
+      }
+
+  answer_of : (result : Result (List ℕ) MoveRefusal) (answer ticket : List ℕ) → result ≡ Ok answer → result ≡ Ok ticket → ticket ≡ answer
+  answer_of result answer ticket e f = cc
+
+  module _ (beside : IsBeside old new)
+      (shown : IsShown meaning lawful link all others asked clear guarded world y handed s at new [] [] (role_of old)) where
+    still : (result : Result (List ℕ) MoveRefusal) → new.cell ≡ old.cell
+        → ((ticket : List ℕ) → result ≡ Ok ticket → IsGoodPaper meaning link all (Left s.going) y ticket) → Kept result
+    still result same good =
+        kept_quiet meaning lawful link all others asked clear guarded world y handed s at new [] (given_tickets result) [] same beside shown
+        tt (given_papers meaning link all others asked (IsGoodPaper meaning link all (Left s.going) y) result good)
+
+    comes : (held : Option MovedCell) → s.cells at ≡ held → HoldsCell link.barrier meaning.id old held → (IsOrWas held → Fine)
+        → (result : Result (List ℕ) MoveRefusal)
+        → MoveOutcome (retirement_in meaning Opt link nonce offer (reading_of held)) old new result → Kept result
+    comes held e h fine result (refused same none) = still result same (λ ticket is. absurd (none ticket is))
+    comes None e h fine result (repeated ready f n same gives) = absurd (cc)
+    comes None e h fine result (made ready bytes f n wrote gives) = absurd (cc)
+    comes (Some (moved.Waiting c)) e h fine result (repeated ready f n same gives) = absurd (cc)
+    comes (Some (moved.Waiting c)) e h fine result (made ready bytes f n wrote gives) = absurd (cc)
+    comes (Some (moved.Live c)) e h fine result (repeated ready f n same gives) =
+        let r = leaves_ready meaning link nonce offer c ready f in
+        let clash : None ≡ Some (retired_spelling (retired_cell_from c nonce)) = sym n ∙ r.1.next_is in absurd (cc)
+    comes (Some (moved.Live c)) e h fine result (made ready bytes f n wrote gives) =
+        let r = leaves_ready meaning link nonce offer c ready f in
+        let wrote_so : new.cell ≡ Some (retired_spelling (retired_cell_from c nonce)) = wrote ∙ sym n ∙ r.1.next_is in
+        leaves c e h (fine tt) ready r.0 r.1 result gives wrote_so
+    comes (Some (moved.Retired c)) e h fine result (made ready bytes f n wrote gives) =
+        let r = again_ready meaning link nonce offer c ready f in
+        let clash : None ≡ Some bytes = sym r.1.next_is ∙ n in absurd (cc)
+    comes (Some (moved.Retired c)) e h fine result (repeated ready f n same gives) =
+        let r = again_ready meaning link nonce offer c ready f in
+        let key : key_of old ≡ c.key = key_held link.barrier meaning.id old (moved.Retired c) h in
+        let had : HasLeft meaning link (Left s.going) (Some (moved.Retired c)) =
+        subst (λ (x : Option MovedCell). HasLeft meaning link (Left s.going) x) e (s.order.left at) in
+        let left : Left s.going nonce c.summary.bytes = subst (λ (x : List ℕ). Left s.going x c.summary.bytes) r.0 had in
+        still result same (λ ticket is.
+        paper_good meaning link nonce offer all (Left s.going) y long c.key c.summary h.formed.summary None ready r.1
+        (subst (IsFineOffer meaning link nonce offer all y) key (fine tt)) left ticket (answer_of result ready.answer ticket gives is))
+
+  pub kept_retiring : (result : Result (List ℕ) MoveRefusal) → (IsOrWas (s.cells at) → Fine)
+      → IsShown meaning lawful link all others asked clear guarded world y handed s at new [] [] (role_of old)
+      → MovePromise (λ bytes. retirement_in meaning Opt link nonce offer (moved_cell_of bytes)) old new result → Kept result
+  kept_retiring result fine shown m =
+      comes (move_beside (λ bytes. retirement_in meaning Opt link nonce offer (moved_cell_of bytes)) old new result m.moves) shown
+      (s.cells at) refl (s.order.holds at) fine result
+      (move_comes link.barrier meaning.id (retirement_in meaning Opt link nonce offer) old new (s.cells at) result (s.order.holds at)
+      m.moves)

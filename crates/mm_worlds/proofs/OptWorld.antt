@@ -1,0 +1,255 @@
+-- Opt: a world is one.
+use Rattle.std.specs.List.{AllByRecursion, Contains, flat_map}
+use Rattle.std.proofs.Common.{◌≡◌, ◌∙◌, ◌++◌, ℕ, List, [], ◌∷◌, Option, None, Some, refl, sym, subst, inl, inr}
+use Rattle.mm_digest.specs.Messages.{start_message}
+use Rattle.mm_digest.specs.declared.variant.Variant.TheVariants.{Opt}
+use Rattle.mm_platform.specs.Standing.{Standing}
+use Rattle.mm_module.specs.Batch.{Batch}
+use Rattle.mm_module.specs.Meaning.{IsLawful, Meaning}
+use Rattle.mm_model.specs.History.{History, requests_of}
+use Rattle.mm_model.specs.Instance.{Instance}
+use Rattle.mm_model.specs.ListLaws.{each_left, each_right, each_self}
+use Rattle.mm_model.specs.Messages.{AreMessagesIn, AreNoGuards, IsClear}
+use Rattle.mm_model.specs.Standing.{IsGenuine, StandsFor, cell_of}
+use Rattle.mm_call.proofs.Above.{each_at}
+use Rattle.mm_life.specs.PartsElsewhere.{PartsAreRefusedElsewhere}
+use Rattle.mm_life.specs.Premises.{IsUntagged, call_batches}
+use Rattle.mm_move.specs.declared.cell.MovedCell.{MovedCell}
+use Rattle.mm_move.specs.declared.cell.MovedCell.TheVariants as moved
+use Rattle.mm_move.specs.declared.link.Link.{Link}
+use Rattle.mm_recovery.specs.FirstStart.{first_history_on}
+use Rattle.mm_sides.specs.Premises.{offer_closing_messages}
+use Rattle.mm_sides.specs.Roles.{Live, Role}
+use Rattle.mm_worlds.specs.Handed.{Handed, snapshots_under}
+use Rattle.mm_worlds.specs.Laws.{OptWorldIsOne}
+use Rattle.mm_worlds.specs.OneWorld.{IsSomewhere, WorldFollows, WorldPartSteps, lives, travels}
+use Rattle.mm_worlds.specs.OptPremises.{AreRegistersTold, IsOptWorldAtStart, TellsRegister, opt_messages_from, opt_messages_in}
+use Rattle.mm_worlds.specs.OptPremises.{opt_world_messages, others_values_in, register_messages_in, retirement_messages, world_batches}
+use Rattle.mm_worlds.specs.OptPremises.{world_values}
+use Rattle.mm_worlds.specs.Platforms.{instance_of, key_of, role_of}
+use Rattle.mm_worlds.specs.Premises.{AreHonest, IsHonest, asked_messages, calls_in, first_handed, handed_after, handed_at_end, offers_to}
+use Rattle.mm_worlds.specs.Worlds.{Accepts, Invites, IsWorldLife, Lives, Retires, World, WorldPart, WorldPartLeads, WorldStage, world_after}
+use Rattle.mm_worlds.specs.Worlds.{world_at_end}
+use Rattle.mm_worlds.proofs.Between.{HasLeft, changed_at, each_changed, from_changed, here_changed}
+use Rattle.mm_worlds.proofs.Cells.{IsAwaited, IsLiveCell, live_role}
+use Rattle.mm_worlds.proofs.Retiring.{IsOrWas}
+use Rattle.mm_worlds.proofs.OptAccepting.{kept_accepting}
+use Rattle.mm_worlds.proofs.OptBetween.{IsInOrder, LeftFor, instance_at}
+use Rattle.mm_worlds.proofs.OptCells.{HoldsCell, HoldsOwn, key_held, role_held}
+use Rattle.mm_worlds.proofs.OptInviting.{kept_inviting}
+use Rattle.mm_worlds.proofs.OptKept.{StandsInOrder}
+use Rattle.mm_worlds.proofs.OptLiving.{kept_living, under_genuine}
+use Rattle.mm_worlds.proofs.OptParts.{first_genuine, first_within}
+use Rattle.mm_worlds.proofs.OptRetiring.{IsFineOffer, kept_retiring}
+
+module _ (meaning : Meaning) (lawful : IsLawful meaning) (link : Link) (all others : List (List ℕ)) (asked : List Batch)
+    (clear : IsClear all) (guarded : AreNoGuards link.barrier others asked) (refuses : PartsAreRefusedElsewhere) where
+  abbrev Stands : World → History → Handed → Type 0
+  Stands world y handed = StandsInOrder meaning link all others asked world y handed
+
+  -- what is asked of a part: its messages, the values of others, and its batches are listed
+  record IsListed (old : Standing) (part : WorldPart) (new : Standing) (f : WorldPartLeads Opt meaning link old part new) : Type 0 where
+    told : TellsRegister part new
+    messages : AreMessagesIn (opt_messages_in meaning link old part new f) all
+    values : AllByRecursion (Contains others) (others_values_in meaning link old part new f)
+    batches : AllByRecursion (Contains asked) (call_batches (calls_in Opt meaning link old part new f))
+
+  module _ (world : World) (y : History) (handed : Handed) (s : Stands world y handed) (at : ℕ) where
+    abbrev old : Standing
+    old = world at
+
+    abbrev here : Instance
+    here = instance_of Opt meaning link old
+
+    abbrev Untagged : List (List ℕ) → Type 0
+    Untagged offers = AllByRecursion (IsUntagged here (snapshots_under (key_of old) handed.snapshots)) offers
+
+    abbrev closings : List (List ℕ) → List (List ℕ)
+    closings offers = flat_map (λ bytes. offer_closing_messages here (Some bytes)) offers
+
+    -- what was handed out under this key is genuine, so an offer that nobody else tagged is
+    offer_fine : (offer : List ℕ) → Untagged (offer ∷ []) → AreMessagesIn (closings (offer ∷ [])) all
+        → IsFineOffer meaning link [] offer all y (key_of old)
+    offer_fine offer u listed = record {
+      genuine = λ content right. each_at (IsGenuine here y) (snapshots_under (key_of old) handed.snapshots) offer
+          (under_genuine meaning link y (key_of old) handed.snapshots s.named) (u.0 content right) content right;
+      listed = each_left (Contains all) (offer_closing_messages here (Some offer)) [] listed;
+    }
+
+    fine_where : (nonce offer : List ℕ) (held : Option MovedCell) → HoldsCell link.barrier meaning.id old held
+        → Untagged (offers_to (role_of old) offer) → AreMessagesIn (closings (offers_to (role_of old) offer)) all → IsOrWas held
+        → IsFineOffer meaning link nonce offer all y (key_of old)
+    fine_where nonce offer (Some (moved.Live c)) h u listed is =
+        let role = role_held link.barrier meaning.id old (Some (moved.Live c)) h in
+        let fine = offer_fine offer (subst (λ (r : Role). Untagged (offers_to r offer)) role u)
+        (subst (λ (r : Role). AreMessagesIn (closings (offers_to r offer)) all) role listed) in
+        record { genuine = fine.genuine; listed = fine.listed }
+    fine_where nonce offer (Some (moved.Retired c)) h u listed is =
+        let role = role_held link.barrier meaning.id old (Some (moved.Retired c)) h in
+        let fine = offer_fine offer (subst (λ (r : Role). Untagged (offers_to r offer)) role u)
+        (subst (λ (r : Role). AreMessagesIn (closings (offers_to r offer)) all) role listed) in
+        record { genuine = fine.genuine; listed = fine.listed }
+    fine_where nonce offer (Some (moved.Waiting c)) h u listed is = absurd is
+    fine_where nonce offer None h u listed is = absurd is
+
+    -- one stage
+    record Stepped (part : WorldPart) (new : Standing) (f : WorldPartLeads Opt meaning link old part new) : Type 0 where
+      after : History
+      stands : Stands (changed_at world at new) after (handed_after Opt meaning link handed old part new f)
+      steps : WorldPartSteps Opt meaning link old part new f (requests_of y.batches) (requests_of after.batches)
+
+    module _ (part : WorldPart) (new : Standing) (f : WorldPartLeads Opt meaning link old part new) (l : IsListed old part new f) where
+      abbrev own : List (List ℕ)
+      own = asked_messages here (calls_in Opt meaning link old part new f)
+
+      abbrev register : List (List ℕ)
+      register = register_messages_in meaning link old part new f
+
+      calls_listed : AreMessagesIn own all
+      calls_listed = each_left (Contains all) own (register ++ retirement_messages meaning link old part) l.messages
+
+      register_listed : AreMessagesIn register all
+      register_listed =
+          each_left (Contains all) register (retirement_messages meaning link old part)
+          (each_right (Contains all) own (register ++ retirement_messages meaning link old part) l.messages)
+
+      retirement_listed : AreMessagesIn (retirement_messages meaning link old part) all
+      retirement_listed =
+          each_right (Contains all) register (retirement_messages meaning link old part)
+          (each_right (Contains all) own (register ++ retirement_messages meaning link old part) l.messages)
+
+    stepped : (part : WorldPart) (new : Standing) (f : WorldPartLeads Opt meaning link old part new)
+        → IsHonest Opt meaning link handed old part new f → IsListed old part new f → Stepped part new f
+    stepped (Lives part) new f honest l =
+        let k = kept_living meaning lawful link all others asked clear guarded world y handed s at new refuses part f honest.offers
+        (record { messages = calls_listed (Lives part) new f l; batches = l.batches })
+        (record { messages = register_listed (Lives part) new f l; values = l.values }) in
+        record { after = k.after; stands = k.stands; steps = k.steps }
+    stepped (Invites nonce key result) new f honest l =
+        let k = kept_inviting meaning lawful link all others asked clear guarded world y handed s at nonce key new result f.0 f.1 f.2
+        honest.nonces (record { messages = register_listed (Invites nonce key result) new f l; values = l.values }) in
+        record { after = k.after; stands = k.stands; steps = k.steps }
+    stepped (Retires nonce offer result) new f honest l =
+        let k = kept_retiring meaning lawful link all others asked clear guarded world y handed s at nonce offer new f.0 result
+        (fine_where nonce offer (s.cells at) (s.order.holds at) honest.offers (retirement_listed (Retires nonce offer result) new f l))
+        (record { messages = register_listed (Retires nonce offer result) new f l; values = l.values }) f.1 in
+        record { after = k.after; stands = k.stands; steps = k.steps }
+    stepped (Accepts ticket result) new f honest l =
+        let k = kept_accepting meaning lawful link all others asked clear guarded world y handed s at ticket new honest.tickets.0 result
+        (record { messages = register_listed (Accepts ticket result) new f l; values = l.values }) l.told f in
+        record { after = k.after; stands = k.stands; steps = k.steps }
+
+  -- all stages, one after another
+  record GoesTo (world : World) (y : History) (handed : Handed) (stages : List WorldStage)
+      (f : IsWorldLife Opt meaning link world stages) : Type 0 where
+    after : History
+    stands : Stands (world_at_end world stages) after (handed_at_end Opt meaning link handed world stages f)
+    follows : WorldFollows Opt meaning link world stages f (requests_of y.batches) (requests_of after.batches)
+
+  goes : (stages : List WorldStage) (world : World) (y : History) (handed : Handed) (f : IsWorldLife Opt meaning link world stages)
+      → Stands world y handed → AreHonest Opt meaning link handed world stages f → AreRegistersTold stages
+      → AreMessagesIn (opt_messages_from meaning link world stages f) all
+      → AllByRecursion (Contains others) (world_values meaning link world stages f)
+      → AllByRecursion (Contains asked) (world_batches meaning link world stages f) → GoesTo world y handed stages f
+  goes [] world y handed f s honest told messages values batches = record { after = y; stands = s; follows = refl }
+  goes (stage ∷ stages) world y handed f s honest told messages values batches =
+      let old : Standing = world stage.at in
+      let later : World = world_after world stage in
+      let mine : List (List ℕ) = opt_messages_in meaning link old stage.part stage.after f.0 in
+      let brought : List (List ℕ) = others_values_in meaning link old stage.part stage.after f.0 in
+      let calls : List Batch = call_batches (calls_in Opt meaning link old stage.part stage.after f.0) in
+      let p = stepped world y handed s stage.at stage.part stage.after f.0 honest.0 (record {
+        told = told.0;
+        messages = each_left (Contains all) mine (opt_messages_from meaning link later stages f.1) messages;
+        values = each_left (Contains others) brought (world_values meaning link later stages f.1) values;
+        batches = each_left (Contains asked) calls (world_batches meaning link later stages f.1) batches;
+      }) in
+      let r = goes stages later p.after (handed_after Opt meaning link handed old stage.part stage.after f.0) f.1 p.stands honest.1 told.1
+      (each_right (Contains all) mine (opt_messages_from meaning link later stages f.1) messages)
+      (each_right (Contains others) brought (world_values meaning link later stages f.1) values)
+      (each_right (Contains asked) calls (world_batches meaning link later stages f.1) batches) in
+      record { after = r.after; stands = r.stands; follows = (requests_of p.after.batches, p.steps, r.follows) }
+
+  -- the start
+  starts : (world : World) (start : IsOptWorldAtStart meaning link world) → Contains all (start_message Opt meaning.id)
+      → Stands world (first_history_on start.values) (first_handed Opt meaning link world)
+  starts world start started =
+      let key : List ℕ = key_of (world 0) in
+      let y : History = first_history_on start.values in
+      let first : MovedCell = moved.Live (cell_of (instance_at meaning link key) y) in
+      let none : ℕ → Option MovedCell = λ at. None in
+      record {
+        cells = changed_at none 0 (Some first);
+        long = start.first.spells.barrier;
+        going = None;
+        order = record {
+          holds = each_changed (λ (other : ℕ) (held : Option MovedCell). HoldsCell link.barrier meaning.id (world other) held) none 0
+              (Some first) (record { formed = start.first.spells; own = (refl, refl, refl); told = start.first.cell })
+              (λ other differs. start.others other differs);
+          placed = record {
+            at = 0;
+            key = key;
+            here = here_changed none 0 (Some first);
+            register = start.first.register;
+            only = λ other h. elim (from_changed IsLiveCell none 0 (Some first) other h) [
+              | inl here ↦ here.0
+              | inr there ↦ absurd there.1
+            ];
+          };
+          left = each_changed (λ (other : ℕ) (held : Option MovedCell). HasLeft meaning link
+              (LeftFor meaning link (changed_at none 0 (Some first)) [] None y) held) none 0 (Some first) tt (λ other _. tt);
+          known = λ other nonce h.
+              elim (from_changed (λ (held : Option MovedCell). IsAwaited held nonce) none 0 (Some first) other h) [
+                | inl here ↦ absurd here.1
+                | inr there ↦ absurd there.1
+              ];
+          apart = λ one other nonce h k.
+              elim (from_changed (λ (held : Option MovedCell). IsAwaited held nonce) none 0 (Some first) one h) [
+                | inl here ↦ absurd here.1
+                | inr there ↦ absurd there.1
+              ];
+        };
+        within = first_within meaning lawful link.key link.barrier start.values all others asked started;
+        named = (first_genuine meaning lawful key link.barrier start.values, tt);
+        papers = tt;
+      }
+
+  -- where the module is
+  module _ (world : World) (y : History) (handed : Handed) (s : Stands world y handed) where
+    is_live : (other : ℕ) → role_of (world other) ≡ Live → IsLiveCell (s.cells other)
+    is_live other role =
+        live_role (s.cells other)
+        (sym (role_held link.barrier meaning.id (world other) (s.cells other) (s.order.holds other)) ∙ role)
+
+    somewhere : (going : Option (List ℕ)) → IsInOrder meaning link world s.cells going y handed.nonces
+        → IsSomewhere Opt meaning link world y
+    somewhere (Some going) o = travels (λ other role. o.placed.none other (is_live other role))
+    somewhere None o =
+        let held : HoldsOwn link.barrier meaning.id (world o.placed.at) (moved.Live (cell_of (instance_at meaning link o.placed.key) y)) =
+        subst (λ (x : Option MovedCell). HoldsCell link.barrier meaning.id (world o.placed.at) x) o.placed.here (o.holds o.placed.at) in
+        let key : key_of (world o.placed.at) ≡ o.placed.key =
+        key_held link.barrier meaning.id (world o.placed.at) (moved.Live (cell_of (instance_at meaning link o.placed.key) y)) held in
+        lives o.placed.at
+        (subst (λ (k : List ℕ). StandsFor (instance_at meaning link k) (world o.placed.at) y) (sym key)
+        (record { spells = held.formed; cell = held.told; register = o.placed.register }))
+        (λ other differs role. differs (o.placed.only other (is_live other role)))
+
+pub opt_is_one : PartsAreRefusedElsewhere → OptWorldIsOne
+opt_is_one refuses meaning lawful link world stages f start told clear guarded honest =
+    let all : List (List ℕ) = opt_world_messages meaning link world stages f in
+    let others : List (List ℕ) = world_values meaning link world stages f in
+    let asked : List Batch = world_batches meaning link world stages f in
+    let handed : Handed = first_handed Opt meaning link world in
+    let itself = each_self [] all in
+    let g = goes meaning lawful link all others asked clear guarded refuses stages world (first_history_on start.values) handed f
+    (starts meaning lawful link all others asked clear guarded refuses world start itself.0) honest told itself.1 (each_self [] others)
+    (each_self [] asked) in
+    record {
+      requests = _;
+      follows = g.follows;
+      history = g.after;
+      holds = refl;
+      somewhere = somewhere meaning lawful link all others asked clear guarded refuses (world_at_end world stages) g.after
+          (handed_at_end Opt meaning link handed world stages f) g.stands g.stands.going g.stands.order;
+      named = g.stands.named;
+    }
