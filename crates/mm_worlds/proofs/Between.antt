@@ -29,7 +29,7 @@ use Rattle.mm_worlds.proofs.Cells.{HoldsCell, IsAwaited, IsLiveCell}
 abbrev pub changed_at : {A : Type 0} → (ℕ → A) → ℕ → A → ℕ → A
 changed_at things at x other = if other == at then x else things other
 
-same_number : (a b : ℕ) → (a == b) ≡ true → a ≡ b
+pub same_number : (a b : ℕ) → (a == b) ≡ true → a ≡ b
 same_number a b e = grind (arith, nat_tests)
 
 other_number : (a b : ℕ) → (a == b) ≡ false → a ≡ b → ⊥

@@ -27,3 +27,4 @@ mod OptInviting
 mod OptRetiring
 mod OptAccepting
 mod OptWorld
+mod Journeys

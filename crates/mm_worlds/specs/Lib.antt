@@ -8,3 +8,4 @@ pub mod OneWorld
 pub mod Evidence
 pub mod Laws
 pub mod Crossing
+pub mod Journey

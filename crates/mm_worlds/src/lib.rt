@@ -3,9 +3,11 @@
 #![tactic(auto)]
 
 mod crossing;
+mod journey;
 mod laws;
 
 pub use crossing::{Crossing, cross_over};
+pub use journey::{Journey, Leg, Pass, go_on, travel_round};
 pub use laws::{
     basic_world_is_one, evidence_is_no_premise, opt_evidence_is_no_premise, opt_world_is_one,
     opt_world_is_one_or_evidence, world_is_one_or_evidence, worlds_keep_promises,
