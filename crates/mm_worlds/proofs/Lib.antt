@@ -28,3 +28,4 @@ mod OptRetiring
 mod OptAccepting
 mod OptWorld
 mod Journeys
+mod Moving

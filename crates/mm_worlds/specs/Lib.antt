@@ -9,3 +9,4 @@ pub mod Evidence
 pub mod Laws
 pub mod Crossing
 pub mod Journey
+pub mod OneMove

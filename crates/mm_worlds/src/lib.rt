@@ -5,6 +5,7 @@
 mod crossing;
 mod journey;
 mod laws;
+mod witness;
 
 pub use crossing::{Crossing, cross_over};
 pub use journey::{Journey, Leg, Pass, go_on, travel_round};
@@ -12,3 +13,4 @@ pub use laws::{
     basic_world_is_one, evidence_is_no_premise, opt_evidence_is_no_premise, opt_world_is_one,
     opt_world_is_one_or_evidence, world_is_one_or_evidence, worlds_keep_promises,
 };
+pub use witness::one_move_meets_premises;
