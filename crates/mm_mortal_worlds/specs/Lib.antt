@@ -1,0 +1,4 @@
+pub mod Below
+pub mod MortalWorlds
+pub mod MortalPremises
+pub mod MortalWorldLaws

@@ -1,0 +1,58 @@
+-- The laws of a world hold of one in which programs are killed: what is asked of it is asked of the
+-- calls that were made and told by each kill.
+use Rattle.std.specs.Prelude.{ℕ, List, []}
+use Rattle.std.specs.List.{AllByRecursion}
+use Rattle.mm_mortal_worlds.specs.Below.{Variant, Basic, Opt, IsLawful, Meaning, AnyModule, meaning_of, AreNoGuards, IsClear}
+use Rattle.mm_mortal_worlds.specs.Below.{ModulePromises, Link, Handed, IsGenuineUnder, IsOneWorld, WorldFollows, IsOptWorldAtStart}
+use Rattle.mm_mortal_worlds.specs.Below.{IsWorldAtStart, first_handed, World}
+use Rattle.mm_mortal_worlds.specs.MortalPremises.{AreMortalHonest, AreMortalRegistersTold, mortal_handed_at_end}
+use Rattle.mm_mortal_worlds.specs.MortalPremises.{mortal_opt_world_messages, mortal_world_batches, mortal_world_messages}
+use Rattle.mm_mortal_worlds.specs.MortalPremises.{mortal_world_values}
+use Rattle.mm_mortal_worlds.specs.MortalWorlds.{IsMortalWorldLife, MortalWorldStage, WorldEnds, ended_world_life, ended_world_stages}
+use Rattle.mm_mortal_worlds.specs.MortalWorlds.{mortal_world_replies}
+
+-- The world in which the killed programs ended is one; and all that was handed out, by killed
+-- programs too, is genuine for its history.
+pub record IsMortalWorldOne (variant : Variant) (meaning : Meaning) (link : Link) (begun : Handed)
+    (world : World) (stages : List MortalWorldStage)
+    (f : IsMortalWorldLife variant meaning link world stages) : Type 0 where
+  pub ends : WorldEnds variant meaning link world stages f
+  pub one : IsOneWorld variant meaning link begun world
+      (ended_world_stages variant meaning link world stages f ends)
+      (ended_world_life variant meaning link world stages f ends)
+  pub named : AllByRecursion (IsGenuineUnder variant meaning link one.history)
+      (mortal_handed_at_end variant meaning link begun world stages f).snapshots
+
+abbrev pub BasicMortalWorldIsOne : Type 0
+BasicMortalWorldIsOne =
+    (meaning : Meaning) → IsLawful meaning → (link : Link) (world : World)
+    (stages : List MortalWorldStage) (f : IsMortalWorldLife Basic meaning link world stages) →
+    IsWorldAtStart Basic meaning link world →
+    IsClear (mortal_world_messages meaning link world stages f) →
+    AreMortalHonest Basic meaning link (first_handed Basic meaning link world) world stages f →
+    IsMortalWorldOne Basic meaning link (first_handed Basic meaning link world) world stages f
+
+abbrev pub OptMortalWorldIsOne : Type 0
+OptMortalWorldIsOne =
+    (meaning : Meaning) → IsLawful meaning → (link : Link) (world : World)
+    (stages : List MortalWorldStage) (f : IsMortalWorldLife Opt meaning link world stages) →
+    IsOptWorldAtStart meaning link world → AreMortalRegistersTold stages →
+    IsClear (mortal_opt_world_messages meaning link world stages f) →
+    AreNoGuards link.barrier (mortal_world_values meaning link world stages f)
+    (mortal_world_batches meaning link world stages f) →
+    AreMortalHonest Opt meaning link (first_handed Opt meaning link world) world stages f →
+    IsMortalWorldOne Opt meaning link (first_handed Opt meaning link world) world stages f
+
+-- What is told on all platforms, by the kills and behind them, keeps what the module promises of
+-- one run.
+abbrev pub MortalWorldsKeepPromises : Type 0
+MortalWorldsKeepPromises =
+    («module» : AnyModule) (variant : Variant) (link : Link) (world : World)
+    (stages : List MortalWorldStage)
+    (f : IsMortalWorldLife variant (meaning_of «module») link world stages)
+    (e : WorldEnds variant (meaning_of «module») link world stages f) (requests : List (List ℕ)) →
+    WorldFollows variant (meaning_of «module») link world
+    (ended_world_stages variant (meaning_of «module») link world stages f e)
+    (ended_world_life variant (meaning_of «module») link world stages f e) [] requests →
+    ModulePromises «module» requests
+    (mortal_world_replies variant (meaning_of «module») link world stages f)

@@ -1,0 +1,41 @@
+//! The laws of a world in which programs are killed, each the contract of a function that calls
+//! what it needs.
+
+ghost use Rattle.mm_mortal_worlds.specs.MortalWorldLaws.{BasicMortalWorldIsOne, MortalWorldsKeepPromises, OptMortalWorldIsOne};
+ghost use Rattle.mm_mortal_worlds.specs.MortalWorlds.{MortalWorldsEnd};
+
+use mm_moments::mortal_lives_end;
+use mm_worlds::{basic_world_is_one, opt_world_is_one, worlds_keep_promises};
+
+/// A world in which programs are killed is one in which each of them ended where it was killed: the
+/// same calls were made and told, and the same is left on each platform.
+pub fn mortal_worlds_end()
+    ensures { MortalWorldsEnd }
+{
+    mortal_lives_end();
+}
+
+/// Basic: so there is one list of requests, and all that programs tell are steps on it, whichever
+/// of them are killed, on whatever platforms and at whatever moments; and the module is on one
+/// platform, or on its way.
+pub fn basic_mortal_world_is_one()
+    ensures { BasicMortalWorldIsOne }
+{
+    mortal_worlds_end();
+    basic_world_is_one();
+}
+
+/// Opt: the same, from a register that others had extended.
+pub fn opt_mortal_world_is_one()
+    ensures { OptMortalWorldIsOne }
+{
+    mortal_worlds_end();
+    opt_world_is_one();
+}
+
+/// What a module promises of one run holds over all platforms together, whatever is killed there.
+pub fn mortal_worlds_keep_promises()
+    ensures { MortalWorldsKeepPromises }
+{
+    worlds_keep_promises();
+}
