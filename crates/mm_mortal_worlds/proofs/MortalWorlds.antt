@@ -1,6 +1,6 @@
 -- A world in which programs are killed is one in which they ended, and its laws hold.
-use Rattle.std.specs.List.{AllByRecursion}
-use Rattle.std.proofs.Common.{◌≡◌, ◌∙◌, ◌++◌, ℕ, List, [], ◌∷◌, refl, subst, sym, ap}
+use Rattle.std.specs.List.{AllByRecursion, Contains}
+use Rattle.std.proofs.Common.{◌≡◌, ◌∙◌, ◌++◌, ℕ, List, [], ◌∷◌, refl, subst, sym, ap, inl, inr, arith}
 use Rattle.std.proofs.lemmas.List.{append-nil}
 use Rattle.std.specs.Option.{option_map_or}
 use Rattle.mm_digest.specs.Messages.{start_message}
@@ -12,6 +12,7 @@ use Rattle.mm_module.specs.Meaning.{IsLawful, Meaning}
 use Rattle.mm_modules.specs.Modules.{meaning_of}
 use Rattle.mm_model.specs.Messages.{AreNoGuards, IsClear}
 use Rattle.mm_call.specs.ShownItems.{foreign_items}
+use Rattle.mm_evidence.specs.Evidence.{HasClash}
 use Rattle.mm_schedule.specs.Promises.{ModulePromises}
 use Rattle.mm_schedule.specs.declared.reply.Reply.{Reply}
 use Rattle.mm_move.specs.declared.link.Link.{Link}
@@ -19,19 +20,22 @@ use Rattle.mm_life.specs.Deeds.{LifeCall}
 use Rattle.mm_life.specs.Premises.{IsUntagged, bytes_unless_idle, call_batches, closing_messages, shown_messages, snapshots_of}
 use Rattle.mm_life.specs.Stages.{LifePart}
 use Rattle.mm_moments.specs.MortalLives.{Dies as KilledPart, MortalLivesEnd}
+use Rattle.mm_worlds.specs.Evidence.{HasWorldBreach, IsWorldBreach, forged_offer, forged_ticket, nonce_twice}
 use Rattle.mm_worlds.specs.Handed.{Handed, IsGenuineUnder, keyed_snapshots, snapshots_under}
-use Rattle.mm_worlds.specs.Laws.{BasicWorldIsOne, OptWorldIsOne, WorldsKeepPromises}
-use Rattle.mm_worlds.specs.OneWorld.{world_part_replies, world_replies}
+use Rattle.mm_worlds.specs.Laws.{BasicWorldIsOne, OptWorldIsOne, OptWorldIsOneOrEvidence, WorldIsOneOrEvidence, WorldsKeepPromises}
+use Rattle.mm_worlds.specs.OneWorld.{IsOneWorld, world_part_replies, world_replies}
 use Rattle.mm_worlds.specs.OptPremises.{AreRegistersTold, TellsRegister, bytes_if_live, opt_messages_from, opt_messages_in, others_values_in, world_batches}
 use Rattle.mm_worlds.specs.OptPremises.{world_values}
 use Rattle.mm_worlds.specs.Platforms.{instance_of, key_of, role_of}
 use Rattle.mm_worlds.specs.Premises.{AreHonest, IsHonest, asked_messages, calls_at, calls_in, first_handed, first_offers, handed_after, handed_at_end}
 use Rattle.mm_worlds.specs.Premises.{messages_from}
 use Rattle.mm_worlds.specs.Worlds.{IsWorldLife, World, WorldStage}
+use Rattle.mm_mortal_worlds.specs.MortalEvidence.{HasMortalBreach, IsMortalBreach}
 use Rattle.mm_mortal_worlds.specs.MortalPremises.{AreMortalHonest, AreMortalRegistersTold, IsMortalHonest, MortalTellsRegister, mortal_calls_in}
 use Rattle.mm_mortal_worlds.specs.MortalPremises.{mortal_handed_after, mortal_handed_at_end, mortal_messages_from, mortal_opt_messages_from}
 use Rattle.mm_mortal_worlds.specs.MortalPremises.{mortal_opt_messages_in, mortal_values_in, mortal_world_batches, mortal_world_values}
-use Rattle.mm_mortal_worlds.specs.MortalWorldLaws.{BasicMortalWorldIsOne, MortalWorldsKeepPromises, OptMortalWorldIsOne}
+use Rattle.mm_mortal_worlds.specs.MortalWorldLaws.{BasicMortalWorldIsOne, IsMortalWorldOne, MortalWorldIsOneOrEvidence, MortalWorldsKeepPromises}
+use Rattle.mm_mortal_worlds.specs.MortalWorldLaws.{OptMortalWorldIsOne, OptMortalWorldIsOneOrEvidence}
 use Rattle.mm_mortal_worlds.specs.MortalWorlds.{Dies, Happens, IsMortalWorldLife, MortalWorldPart, MortalWorldPartLeads, MortalWorldStage}
 use Rattle.mm_mortal_worlds.specs.MortalWorlds.{MortalWorldsEnd, WorldEnds, WorldPartEnds, ended_leads, ended_part, ended_world_life}
 use Rattle.mm_mortal_worlds.specs.MortalWorlds.{ended_world_stages, mortal_world_after, mortal_world_part_replies, mortal_world_replies}
@@ -128,6 +132,47 @@ module _ (variant : Variant) (meaning : Meaning) (link : Link) where
             (honest (mortal_handed_after variant meaning link handed (world stage.at) stage.part stage.after f.0) next stages f.1 e.1
             h.1),
       )
+
+  breach_here : (handed : Handed) (old : Standing) (part : MortalWorldPart) (new : Standing)
+      (f : MortalWorldPartLeads variant meaning link old part new) (e : WorldPartEnds variant meaning link old part new f)
+      → IsWorldBreach variant meaning link handed old (ended_part variant meaning link old part new f e) new
+      (ended_leads variant meaning link old part new f e)
+      → IsMortalBreach variant meaning link handed old part new f
+  breach_here handed old (Happens part) new f e b = b
+  breach_here handed old (Dies p) new k e (forged_offer offer content offers right unknown) = record {
+    offer = offer;
+    content = content;
+    offered = subst (λ (calls : List LifeCall). Contains (first_offers (calls_at (role_of old) calls)) offer) e.calls offers;
+    right = right;
+    unknown = unknown;
+  }
+  breach_here handed old (Dies p) new k e (forged_ticket ticket content offers right unknown) = absurd (omega (arith, offers.1))
+  breach_here handed old (Dies p) new k e (nonce_twice nonce here before) = absurd (omega (arith, here.1))
+
+  breach : (handed : Handed) (world : World) (stages : List MortalWorldStage)
+      (f : IsMortalWorldLife variant meaning link world stages) (e : WorldEnds variant meaning link world stages f)
+      → HasWorldBreach variant meaning link handed world (ended world stages f e) (life world stages f e)
+      → HasMortalBreach variant meaning link handed world stages f
+  breach handed world [] f e b = elim b [ ]
+  breach handed world (stage ∷ stages) f e (inl b) =
+      inl (breach_here handed (world stage.at) stage.part stage.after f.0 e.0 b)
+  breach handed world (stage ∷ stages) f e (inr b) =
+      let next = mortal_world_after world stage in
+      inr (breach (mortal_handed_after variant meaning link handed (world stage.at) stage.part stage.after f.0) next stages f.1 e.1
+      (subst (λ (x : Handed). HasWorldBreach variant meaning link x next (ended next stages f.1 e.1) (life next stages f.1 e.1))
+      (handed_same (world stage.at) handed stage.part stage.after f.0 e.0) b))
+
+  -- the world in which the killed programs ended is one
+  one_of : (begun : Handed) (world : World) (stages : List MortalWorldStage)
+      (f : IsMortalWorldLife variant meaning link world stages) (e : WorldEnds variant meaning link world stages f)
+      → IsOneWorld variant meaning link begun world (ended world stages f e) (life world stages f e)
+      → IsMortalWorldOne variant meaning link begun world stages f
+  one_of begun world stages f e one = record {
+    ends = e;
+    one = one;
+    named = subst (λ (x : Handed). AllByRecursion (IsGenuineUnder variant meaning link one.history) x.snapshots)
+        (handed_end begun world stages f e) one.named;
+  }
 
   replies_same : (world : World) (stages : List MortalWorldStage) (f : IsMortalWorldLife variant meaning link world stages)
       (e : WorldEnds variant meaning link world stages f)
@@ -226,20 +271,17 @@ pub basic_one : MortalWorldsEnd → BasicWorldIsOne → BasicMortalWorldIsOne
 basic_one end law meaning lawful link world stages f start clear asked =
     let e = end Basic meaning lawful link world stages f in
     let begun = first_handed Basic meaning link world in
-    let one = law meaning lawful link world (ended Basic meaning link world stages f e) (life Basic meaning link world stages f e) start
+    one_of Basic meaning link begun world stages f e
+    (law meaning lawful link world (ended Basic meaning link world stages f e) (life Basic meaning link world stages f e) start
     (subst (λ (messages : List (List ℕ)). IsClear (start_message Basic meaning.id ∷ messages))
-    (sym (messages_same meaning link world stages f e)) clear) (honest Basic meaning link begun world stages f e asked) in record {
-      ends = e;
-      one = one;
-      named = subst (λ (x : Handed). AllByRecursion (IsGenuineUnder Basic meaning link one.history) x.snapshots)
-          (handed_end Basic meaning link begun world stages f e) one.named;
-    }
+    (sym (messages_same meaning link world stages f e)) clear) (honest Basic meaning link begun world stages f e asked))
 
 pub opt_one : MortalWorldsEnd → OptWorldIsOne → OptMortalWorldIsOne
 opt_one end law meaning lawful link world stages f start told clear apart asked =
     let e = end Opt meaning lawful link world stages f in
     let begun = first_handed Opt meaning link world in
-    let one = law meaning lawful link world (ended Opt meaning link world stages f e) (life Opt meaning link world stages f e) start
+    one_of Opt meaning link begun world stages f e
+    (law meaning lawful link world (ended Opt meaning link world stages f e) (life Opt meaning link world stages f e) start
     (registers_told meaning link world stages f e told)
     (subst (λ (messages : List (List ℕ)). IsClear (start_message Opt meaning.id ∷ messages))
     (sym (opt_messages_same meaning link world stages f e)) clear)
@@ -247,12 +289,43 @@ opt_one end law meaning lawful link world stages f start told clear apart asked 
     (world_batches meaning link world (ended Opt meaning link world stages f e) (life Opt meaning link world stages f e)))
     (sym (values_same meaning link world stages f e))
     (subst (λ (batches : List Batch). AreNoGuards link.barrier (mortal_world_values meaning link world stages f) batches)
-    (sym (batches_same meaning link world stages f e)) apart)) (honest Opt meaning link begun world stages f e asked) in record {
-      ends = e;
-      one = one;
-      named = subst (λ (x : Handed). AllByRecursion (IsGenuineUnder Opt meaning link one.history) x.snapshots)
-          (handed_end Opt meaning link begun world stages f e) one.named;
-    }
+    (sym (batches_same meaning link world stages f e)) apart)) (honest Opt meaning link begun world stages f e asked))
+
+pub one_or_evidence : MortalWorldsEnd → WorldIsOneOrEvidence → MortalWorldIsOneOrEvidence
+one_or_evidence end law meaning lawful link world stages f start =
+    let e = end Basic meaning lawful link world stages f in
+    let begun = first_handed Basic meaning link world in
+    elim (law meaning lawful link world (ended Basic meaning link world stages f e) (life Basic meaning link world stages f e) start) [
+      | inl one ↦ inl (one_of Basic meaning link begun world stages f e one)
+      | inr evidence ↦ inr (elim evidence [
+        | inl clash ↦ inl (subst (λ (messages : List (List ℕ)). HasClash (instance_of Basic meaning link (world 0))
+            (start_message Basic meaning.id ∷ messages) [] []) (messages_same meaning link world stages f e) clash)
+        | inr b ↦ inr (breach Basic meaning link begun world stages f e b)
+      ])
+    ]
+
+pub opt_one_or_evidence : MortalWorldsEnd → OptWorldIsOneOrEvidence → OptMortalWorldIsOneOrEvidence
+opt_one_or_evidence end law meaning lawful link world stages f start told =
+    let e = end Opt meaning lawful link world stages f in
+    let begun = first_handed Opt meaning link world in
+    let stages' = ended Opt meaning link world stages f e in
+    let life' = life Opt meaning link world stages f e in
+    let at = instance_of Opt meaning link (world 0) in
+    elim (law meaning lawful link world stages' life' start (registers_told meaning link world stages f e told)) [
+      | inl one ↦ inl (one_of Opt meaning link begun world stages f e one)
+      | inr evidence ↦ inr (elim evidence [
+        | inl clash ↦ inl (subst (λ (batches : List Batch). HasClash at
+            (start_message Opt meaning.id ∷ mortal_opt_messages_from meaning link world stages f)
+            (mortal_world_values meaning link world stages f) batches) (batches_same meaning link world stages f e)
+            (subst (λ (values : List (List ℕ)). HasClash at
+            (start_message Opt meaning.id ∷ mortal_opt_messages_from meaning link world stages f) values
+            (world_batches meaning link world stages' life')) (values_same meaning link world stages f e)
+            (subst (λ (messages : List (List ℕ)). HasClash at (start_message Opt meaning.id ∷ messages)
+            (world_values meaning link world stages' life') (world_batches meaning link world stages' life'))
+            (opt_messages_same meaning link world stages f e) clash)))
+        | inr b ↦ inr (breach Opt meaning link begun world stages f e b)
+      ])
+    ]
 
 pub promises : WorldsKeepPromises → MortalWorldsKeepPromises
 promises law it variant link world stages f e requests follows =

@@ -2,15 +2,18 @@
 pub use Rattle.mm_digest.specs.Messages.{start_message}
 pub use Rattle.mm_digest.specs.declared.variant.Variant.{Variant}
 pub use Rattle.mm_digest.specs.declared.variant.Variant.TheVariants.{Basic, Opt}
+pub use Rattle.mm_seal.specs.Snapshot.{Content}
 pub use Rattle.mm_platform.specs.Standing.{Standing}
 pub use Rattle.mm_module.specs.Batch.{Batch}
 pub use Rattle.mm_module.specs.Meaning.{IsLawful, Meaning}
 pub use Rattle.mm_modules.specs.Modules.{meaning_of}
 pub use Rattle.mm_modules.specs.declared.any.AnyModule.{AnyModule}
 pub use Rattle.mm_model.specs.Messages.{AreNoGuards, IsClear}
+pub use Rattle.mm_model.specs.Standing.{IsRight}
 pub use Rattle.mm_call.specs.ShownItems.{foreign_items}
 pub use Rattle.mm_schedule.specs.Promises.{ModulePromises}
 pub use Rattle.mm_schedule.specs.declared.reply.Reply.{Reply}
+pub use Rattle.mm_evidence.specs.Evidence.{HasClash}
 pub use Rattle.mm_move.specs.declared.link.Link.{Link}
 pub use Rattle.mm_recovery.specs.HostStanding.{host_standing}
 pub use Rattle.mm_life.specs.Deeds.{LifeCall}
@@ -19,6 +22,7 @@ pub use Rattle.mm_life.specs.Premises.{IsUntagged, bytes_unless_idle, call_batch
 pub use Rattle.mm_life.specs.Stages.{session_on}
 pub use Rattle.mm_moments.specs.KilledSessions.{IsKilledSession}
 pub use Rattle.mm_moments.specs.MortalLives.{Dies as KilledPart, KilledProgram, PartEnds, killed_calls}
+pub use Rattle.mm_worlds.specs.Evidence.{IsWorldBreach}
 pub use Rattle.mm_worlds.specs.Handed.{Handed, IsGenuineUnder, KeyedSnapshot, keyed_snapshots, snapshots_under}
 pub use Rattle.mm_worlds.specs.OneWorld.{IsOneWorld, WorldFollows, world_part_replies}
 pub use Rattle.mm_worlds.specs.OptPremises.{IsOptWorldAtStart, TellsRegister, bytes_if_live, opt_messages_in, others_values_in}

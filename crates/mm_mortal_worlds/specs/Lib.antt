@@ -1,4 +1,5 @@
 pub mod Below
 pub mod MortalWorlds
 pub mod MortalPremises
+pub mod MortalEvidence
 pub mod MortalWorldLaws

@@ -1,10 +1,11 @@
 -- The laws of a world hold of one in which programs are killed: what is asked of it is asked of the
 -- calls that were made and told by each kill.
-use Rattle.std.specs.Prelude.{ℕ, List, []}
+use Rattle.std.specs.Prelude.{◌⊎◌, ℕ, List, []}
 use Rattle.std.specs.List.{AllByRecursion}
 use Rattle.mm_mortal_worlds.specs.Below.{Variant, Basic, Opt, IsLawful, Meaning, AnyModule, meaning_of, AreNoGuards, IsClear}
 use Rattle.mm_mortal_worlds.specs.Below.{ModulePromises, Link, Handed, IsGenuineUnder, IsOneWorld, WorldFollows, IsOptWorldAtStart}
 use Rattle.mm_mortal_worlds.specs.Below.{IsWorldAtStart, first_handed, World}
+use Rattle.mm_mortal_worlds.specs.MortalEvidence.{HasMortalWorldEvidence, HasOptMortalWorldEvidence}
 use Rattle.mm_mortal_worlds.specs.MortalPremises.{AreMortalHonest, AreMortalRegistersTold, mortal_handed_at_end}
 use Rattle.mm_mortal_worlds.specs.MortalPremises.{mortal_opt_world_messages, mortal_world_batches, mortal_world_messages}
 use Rattle.mm_mortal_worlds.specs.MortalPremises.{mortal_world_values}
@@ -42,6 +43,24 @@ OptMortalWorldIsOne =
     (mortal_world_batches meaning link world stages f) →
     AreMortalHonest Opt meaning link (first_handed Opt meaning link world) world stages f →
     IsMortalWorldOne Opt meaning link (first_handed Opt meaning link world) world stages f
+
+-- With no premise but the start, and in Opt registers that are told where tickets are offered, it is
+-- one, or one holds evidence in hand.
+abbrev pub MortalWorldIsOneOrEvidence : Type 0
+MortalWorldIsOneOrEvidence =
+    (meaning : Meaning) → IsLawful meaning → (link : Link) (world : World)
+    (stages : List MortalWorldStage) (f : IsMortalWorldLife Basic meaning link world stages) →
+    IsWorldAtStart Basic meaning link world →
+    IsMortalWorldOne Basic meaning link (first_handed Basic meaning link world) world stages f
+    ⊎ HasMortalWorldEvidence meaning link (first_handed Basic meaning link world) world stages f
+
+abbrev pub OptMortalWorldIsOneOrEvidence : Type 0
+OptMortalWorldIsOneOrEvidence =
+    (meaning : Meaning) → IsLawful meaning → (link : Link) (world : World)
+    (stages : List MortalWorldStage) (f : IsMortalWorldLife Opt meaning link world stages) →
+    IsOptWorldAtStart meaning link world → AreMortalRegistersTold stages →
+    IsMortalWorldOne Opt meaning link (first_handed Opt meaning link world) world stages f
+    ⊎ HasOptMortalWorldEvidence meaning link (first_handed Opt meaning link world) world stages f
 
 -- What is told on all platforms, by the kills and behind them, keeps what the module promises of
 -- one run.

@@ -1,11 +1,14 @@
 //! The laws of a world in which programs are killed, each the contract of a function that calls
 //! what it needs.
 
-ghost use Rattle.mm_mortal_worlds.specs.MortalWorldLaws.{BasicMortalWorldIsOne, MortalWorldsKeepPromises, OptMortalWorldIsOne};
+ghost use Rattle.mm_mortal_worlds.specs.MortalWorldLaws.{BasicMortalWorldIsOne, MortalWorldIsOneOrEvidence, MortalWorldsKeepPromises, OptMortalWorldIsOne, OptMortalWorldIsOneOrEvidence};
 ghost use Rattle.mm_mortal_worlds.specs.MortalWorlds.{MortalWorldsEnd};
 
 use mm_moments::mortal_lives_end;
-use mm_worlds::{basic_world_is_one, opt_world_is_one, worlds_keep_promises};
+use mm_worlds::{
+    basic_world_is_one, opt_world_is_one, opt_world_is_one_or_evidence, world_is_one_or_evidence,
+    worlds_keep_promises,
+};
 
 /// A world in which programs are killed is one in which each of them ended where it was killed: the
 /// same calls were made and told, and the same is left on each platform.
@@ -31,6 +34,22 @@ pub fn opt_mortal_world_is_one()
 {
     mortal_worlds_end();
     opt_world_is_one();
+}
+
+/// With no premise but the start: it is one world, or one holds evidence in hand.
+pub fn mortal_world_is_one_or_evidence()
+    ensures { MortalWorldIsOneOrEvidence }
+{
+    mortal_worlds_end();
+    world_is_one_or_evidence();
+}
+
+/// Opt: the same, where registers are told where tickets are offered.
+pub fn opt_mortal_world_is_one_or_evidence()
+    ensures { OptMortalWorldIsOneOrEvidence }
+{
+    mortal_worlds_end();
+    opt_world_is_one_or_evidence();
 }
 
 /// What a module promises of one run holds over all platforms together, whatever is killed there.
