@@ -1,12 +1,12 @@
 -- How a session that went on began: with nothing, or with the answer to what waited.
-use Rattle.std.proofs.Common.{◌≡◌, ◌≢◌, ◌∙◌, ◌⊎◌, ◌+◌, ◌-◌, ◌≤◌, ◌<◌, ℕ, Bool, true, false, List, [], ◌∷◌, ◌++◌, length, Option, None, Some, Result, Ok, Err}
-use Rattle.std.proofs.Common.{refl, sym, ap, inl, inr, subst, arith, nat_eq, append_assoc, length-append}
+use Rattle.std.proofs.Common.{◌≡◌, ◌∙◌, ◌⊎◌, ◌+◌, ℕ, true, false, List, [], ◌∷◌, ◌++◌, length, Option, None, Some, Result, Ok, Err}
+use Rattle.std.proofs.Common.{refl, sym, ap, inl, inr, subst, arith, append_assoc, length-append}
 use Rattle.std.proofs.lemmas.Bool.Decides.{nat_tests}
 use Rattle.std.proofs.lemmas.List.{append-nil}
-use Rattle.mm_client.proofs.Below.{Variant, Meaning, One, Answer, Refusal, StoreFault, HostFault, Resumed, Start, Answered, store_fault_as, StoreStanding}
-use Rattle.mm_client.proofs.Below.{PendingRecord, HostStanding, HostGoesAfterAsk, HostGoesAfterFinding, HostGoesAfterOffer, HostResumes, IsBatchStep, Told}
-use Rattle.mm_client.proofs.Below.{result_of_keep, result_of_start, position_at, ServedCall, ServesCalls, SessionPlace, AreNewFrom, AreToldOnce, CallsRunOver}
-use Rattle.mm_client.proofs.Below.{answer_reply, first_served_call, waiting_position, served_lines, IsNextOrLast, WaitsInSlots, one_waiting, saw_two}
+use Rattle.mm_client.proofs.Below.{Variant, Meaning, Answer, Refusal, StoreFault, HostFault, Resumed, Start, Answered, StoreStanding}
+use Rattle.mm_client.proofs.Below.{PendingRecord, HostStanding, HostGoesAfterAsk, HostGoesAfterFinding, HostGoesAfterOffer, HostResumes}
+use Rattle.mm_client.proofs.Below.{result_of_keep, result_of_start, position_at, ServedCall, AreNewFrom, AreToldOnce, CallsRunOver}
+use Rattle.mm_client.proofs.Below.{first_served_call, waiting_position, served_lines, IsNextOrLast, WaitsInSlots, one_waiting, saw_two}
 
 pub data Began (waiting : Option PendingRecord) (first : Resumed) : Type 0 where
   at_start : waiting ≡ None → (bytes : List ℕ) → first ≡ Start bytes → Began waiting first

@@ -1,28 +1,23 @@
 -- A careful client: whatever others do, his lines are run in order, each at most once.
 use Rattle.std.specs.List.{AllByRecursion}
-use Rattle.std.proofs.Common.{◌≡◌, ◌∙◌, ◌⊎◌, ◌+◌, ◌-◌, ◌≤◌, ℕ, Bool, true, false, List, [], ◌∷◌, ◌++◌, length, take, drop, Option, None, Some, Result, Ok, Err}
+use Rattle.std.proofs.Common.{◌≡◌, ◌∙◌, ◌⊎◌, ◌+◌, ◌-◌, ◌≤◌, ℕ, Bool, true, false, List, [], ◌∷◌, ◌++◌, length, take, drop, Option, None, Some, Result}
 use Rattle.std.proofs.Common.{refl, sym, ap, inl, inr, subst, arith, append_assoc, length-append, nat_eq, if◌then◌else◌}
 use Rattle.std.proofs.lemmas.Bool.Decides.{nat_tests}
 use Rattle.std.proofs.lemmas.List.{append-nil, take-append-drop}
-use Rattle.std.proofs.Math.Seq.{take-add}
 use Rattle.mm_client.proofs.Below.{last_bytes_in}
-use Rattle.mm_client.proofs.Below.{Variant, Meaning, One, IsUnbroken, Standing, IsBatchStep, Told, answer_reply, CallsRunOver, HasUntoldRequest, ServedCall, Resumed}
+use Rattle.mm_client.proofs.Below.{Variant, Meaning, One, IsUnbroken, Standing, IsBatchStep, Told, CallsRunOver, HasUntoldRequest, ServedCall, Resumed}
 use Rattle.mm_client.proofs.Below.{Start, Answered, PendingRecord, IsSession, SessionStanding, SessionFault, SessionGoesAfterResume, SessionSteps, host_of}
-use Rattle.mm_client.proofs.Below.{first_served_call, served_calls_in, served_calls_of, served_lines, found_record, IsInHand, IsInHandOf, lines_of, BytesBeginWith}
-use Rattle.mm_client.proofs.Below.{Does, Holds, IsLife, LifePart, LifeStage, PartLeads, PartSteps, LifeFollows, Program, session_on, each_left}
+use Rattle.mm_client.proofs.Below.{first_served_call, served_calls_in, served_calls_of, served_lines, found_record, IsInHand, lines_of, BytesBeginWith}
+use Rattle.mm_client.proofs.Below.{Does, Holds, IsLife, LifePart, LifeStage, PartLeads, PartSteps, LifeFollows, Program, each_left}
 use Rattle.mm_host.specs.Sessions.{SessionGoesOn}
 use Rattle.mm_client.specs.declared.heard.HeardReply.{HeardReply}
-use Rattle.mm_client.specs.AnyLife.{part_told}
 use Rattle.mm_client.specs.Careful.{AreSomeOf, CarefulClientsRunOnce, CarefulMemory, IsCarefulLife, IsHisPart, careful_memory_after, careful_memory_at, careful_lines, careful_runs}
 use Rattle.mm_client.specs.Careful.{is_told_again, lines_if_his, lines_run_by, new_lines_of, part_lines, untold_lines}
 use Rattle.mm_client.specs.ClientLife.{IsGiven, IsHeard, replies_of}
-use Rattle.mm_client.specs.Hearing.{Hearing, heard_position}
 use Rattle.mm_client.specs.ServedOnce.{IsTrueReply}
 use Rattle.mm_client.proofs.AnyLives.{IsGrown, asking_tells, part_tells}
 use Rattle.mm_client.proofs.Giving.{LinesGo, drop_unbroken, lines_go, next_line, served_unbroken}
-use Rattle.mm_client.proofs.Replies.{heard_within, runs_grow, step_grows}
-use Rattle.mm_client.proofs.OneSession.{none_served}
-use Rattle.mm_client.proofs.Positions.{session_positive}
+use Rattle.mm_client.proofs.Replies.{heard_within, step_grows}
 
 take_unbroken : (n : ℕ) (lines : List (List ℕ)) → AllByRecursion IsUnbroken lines → AllByRecursion IsUnbroken (take n lines)
 take_unbroken n lines a =

@@ -1,12 +1,12 @@
 -- The lines that were served are the first of those that were given.
 use Rattle.std.specs.Io.KnownBytes.{Consumes, IsAtEnd}
 use Rattle.std.specs.List.{AllByRecursion}
-use Rattle.std.proofs.Common.{◌≡◌, ◌∙◌, ◌+◌, ◌-◌, ◌≤◌, ◌<◌, ℕ, Bool, true, false, List, [], ◌∷◌, ◌++◌, length, drop, take, Option, None, Some, refl, sym, ap}
-use Rattle.std.proofs.Common.{subst, arith, append_assoc, length-append, if◌then◌else◌}
+use Rattle.std.proofs.Common.{◌≡◌, ◌∙◌, ◌+◌, ◌-◌, ◌≤◌, ℕ, Bool, true, false, List, [], ◌∷◌, ◌++◌, length, drop, take, Option, None, Some, refl, sym, ap}
+use Rattle.std.proofs.Common.{subst, arith, append_assoc, if◌then◌else◌}
 use Rattle.std.proofs.lemmas.List.{append-nil, append_cancel_left, take-append-drop}
 use Rattle.std.proofs.Math.Seq.{drop-append-add, drop-append_seam}
 use Rattle.mm_client.proofs.Below.{Variant, Meaning, Answered, IsUnbroken, joined_lines, lines_of, lines_of-joined, lines_of-line, each_right}
-use Rattle.mm_client.proofs.Below.{BytesBeginWith, ServedCall, ServesCalls, SessionPlace, served_lines}
+use Rattle.mm_client.proofs.Below.{ServedCall, ServesCalls, SessionPlace, served_lines}
 use Rattle.mm_client.specs.ClientLife.{IsGiven}
 use Rattle.mm_client.specs.Hearing.{ClientMemory, lines_to_give}
 

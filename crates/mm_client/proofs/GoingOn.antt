@@ -1,27 +1,26 @@
 -- A session of a client that went on: what stands behind it.
-use Rattle.std.specs.Io.KnownBytes.{IsAtEnd}
 use Rattle.std.specs.List.{AllByRecursion}
-use Rattle.std.proofs.Common.{◌≡◌, ◌≢◌, ◌∙◌, ◌⊎◌, ◌+◌, ◌-◌, ◌≤◌, ◌<◌, ◌%◌, ℕ, Bool, true, false, List, [], ◌∷◌, ◌++◌, length, drop, take}
-use Rattle.std.proofs.Common.{Option, None, Some, Result, Ok, Err, refl, sym, ap, inl, inr, subst, arith, append_assoc, length-append, if◌then◌else◌}
+use Rattle.std.proofs.Common.{◌≡◌, ◌≢◌, ◌∙◌, ◌⊎◌, ◌+◌, ◌-◌, ◌≤◌, ◌<◌, ◌%◌, ℕ, Bool, true, false, List, [], ◌∷◌, ◌++◌, length, drop}
+use Rattle.std.proofs.Common.{Option, Some, Result, Ok, Err, refl, sym, ap, inl, inr, subst, arith, append_assoc, length-append, if◌then◌else◌}
 use Rattle.std.proofs.lemmas.List.{append-nil}
-use Rattle.mm_client.proofs.Below.{Variant, Meaning, IsUnbroken, last_position, Store, Resumed, StoreStanding, Slots, slot_front, longest_slot, PendingRecord}
+use Rattle.mm_client.proofs.Below.{Variant, Meaning, IsUnbroken, last_position, Store, Slots, slot_front, PendingRecord}
 use Rattle.mm_client.proofs.Below.{pending_spelling, waiting_position, record_for, position_at, lines_of, joined_lines, BytesBeginWith, IsSession, ServedCall}
-use Rattle.mm_client.proofs.Below.{SessionPlace, SessionStanding, host_of, SessionFault, Host, served_lines, first_served_call, IsAtRest, TurnGoes, turn_answer_of}
+use Rattle.mm_client.proofs.Below.{SessionPlace, SessionStanding, host_of, SessionFault, Host, served_lines, first_served_call, TurnGoes, turn_answer_of}
 use Rattle.mm_client.proofs.Below.{AreNewFrom, AreToldOnce, CallsRunOver, HasUntoldRequest, IsNotBeyond, IsNextOrLast, RequestMayBeUntold, WaitsInSlots}
 use Rattle.mm_client.proofs.Below.{reached_position, each_left, one_waiting}
 use Rattle.mm_host.specs.Sessions.{SessionGoesOn}
 use Rattle.mm_client.specs.declared.heard.HeardReply.{HeardReply}
 use Rattle.mm_client.specs.Hearing.{ClientMemory, Hearing, has_heard, heard_position, is_sure_after, lines_to_give, memory_after}
 use Rattle.mm_client.specs.ClientLife.{IsGiven, IsHeard, replies_of}
-use Rattle.mm_client.specs.ServedOnce.{IsMomentOf, IsTrueReply}
+use Rattle.mm_client.specs.ServedOnce.{IsTrueReply}
 use Rattle.mm_client.proofs.Beginning.{Began, FirstRun, begins, first_run, lines_run}
 use Rattle.mm_client.proofs.Giving.{LinesGo, given_unbroken, length-served, lines_go, next_line, rest_is, served_unbroken}
 use Rattle.mm_client.proofs.Leaving.{SessionLeaves, as_before, fails, in_hand, keeps_honest, records, session_leaves}
-use Rattle.mm_client.proofs.OneSession.{IsNextIn, Stands, first_few, lost_none, moment_then, none_served, reached_so, sure_cases, told_slots}
-use Rattle.mm_client.proofs.OneSession.{waited_most, waits_least, waits_none, waits_shown, same_waits, some_is}
+use Rattle.mm_client.proofs.OneSession.{IsNextIn, Stands, first_few, lost_none, moment_then, none_served, reached_so, sure_cases}
+use Rattle.mm_client.proofs.OneSession.{waited_most, waits_least, waits_none, waits_shown, some_is}
 use Rattle.mm_client.proofs.Reading.{IsIn, in_most, record_is, waits_in}
 use Rattle.mm_client.proofs.Replies.{all_true_on, first_positive, heard_all, runs_grow, told_true}
-use Rattle.mm_client.proofs.Trace.{IsAsBefore, HoldsRecord, reached_by, shown}
+use Rattle.mm_client.proofs.Trace.{reached_by, shown}
 
 -- what is left of the list where the session began to serve
 record Planned (then_are lines list : List (List ℕ)) (was_sure : Bool) : Type 0 where

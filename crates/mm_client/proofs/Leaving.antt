@@ -1,9 +1,9 @@
 -- What a session that went on leaves in a slot of records.
-use Rattle.std.proofs.Common.{◌≡◌, ◌≢◌, ◌∙◌, ◌⊎◌, ◌+◌, ◌-◌, ◌≤◌, ◌<◌, ◌%◌, ℕ, true, List, [], ◌∷◌, ◌++◌, length, Option, None, Some, Result, Ok, Err}
-use Rattle.std.proofs.Common.{refl, sym, ap, inl, inr, subst, arith}
+use Rattle.std.proofs.Common.{◌≡◌, ◌≢◌, ◌∙◌, ◌+◌, ◌≤◌, ◌<◌, ℕ, true, List, [], Option, Result, Ok, Err}
+use Rattle.std.proofs.Common.{sym, ap, inl, inr}
 use Rattle.mm_client.proofs.Below.{Variant, Meaning, HostFault, Store, Resumed, IsLineFront, longest_request, StoreStanding, HostStanding, position_at}
 use Rattle.mm_client.proofs.Below.{SessionPlace, BytesBeginWith, IsAtRest, SendsReply, SessionStopsInLine, TurnGoes, turn_answer_of, reply_text}
-use Rattle.mm_client.proofs.Below.{session_result_of, SessionFault, Host, Lines, AsksNextRequest, ServedCall, ServesCalls, AreNewFrom, HostResumes}
+use Rattle.mm_client.proofs.Below.{session_result_of, SessionFault, Host, Lines, ServedCall, ServesCalls, AreNewFrom, HostResumes}
 use Rattle.mm_base.specs.declared.replay_fault.ReplayFault.TheVariants as lines
 use Rattle.mm_client.proofs.Trace.{HoldsRecord, IsAsBefore, LineLeaves, LinesLeave, leaves_honest, line_so, lines_so, resumed_so, then_so}
 use Rattle.mm_client.proofs.Trace as trace

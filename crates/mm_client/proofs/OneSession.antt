@@ -1,24 +1,21 @@
 -- One session of a client over an honest store: what stands behind it.
-use Rattle.std.specs.Io.KnownBytes.{IsAtEnd}
 use Rattle.std.specs.List.{AllByRecursion}
-use Rattle.std.proofs.Common.{◌≡◌, ◌≢◌, ◌∙◌, ◌⊎◌, ◌+◌, ◌-◌, ◌≤◌, ◌<◌, ◌%◌, ◌&&◌, ◌||◌, ℕ, Bool, true, false, not, List, [], ◌∷◌, ◌++◌, length, drop}
-use Rattle.std.proofs.Common.{Option, None, Some, Result, Ok, Err, refl, sym, ap, inl, inr, subst, arith, append_assoc, length-append, if◌then◌else◌}
-use Rattle.std.proofs.lemmas.List.{append-nil, append_cancel_left}
-use Rattle.mm_client.proofs.Below.{Variant, Meaning, IsUnbroken, last_position, Store, Resumed, Start, Answered, StoreStanding, Slots, slot_front, PendingRecord}
-use Rattle.mm_client.proofs.Below.{pending_spelling, IsWaiting, waiting_position, record_for, position_at, lines_of, BytesBeginWith, IsSession, ServedCall, ServesCalls}
-use Rattle.mm_client.proofs.Below.{SessionPlace, SessionStanding, host_of, SessionFault, Host, served_lines, first_served_call, served_calls_in, IsInHand, found_record}
-use Rattle.mm_client.proofs.Below.{AreNewFrom, AreToldOnce, CallsRunOver, HasUntoldRequest, IsNotBeyond, IsNextOrLast, RequestMayBeUntold, WaitsInSlots, one_waiting}
-use Rattle.mm_client.proofs.Below.{reached_position, each_append, each_left}
-use Rattle.mm_host.specs.Sessions.{SessionGoesOn, SessionStopsAtOnce}
+use Rattle.std.proofs.Common.{◌≡◌, ◌≢◌, ◌∙◌, ◌⊎◌, ◌+◌, ◌≤◌, ◌<◌, ◌%◌, ◌&&◌, ◌||◌, ℕ, Bool, true, false, not, List, [], ◌∷◌, ◌++◌, length}
+use Rattle.std.proofs.Common.{Option, None, Some, Result, refl, sym, ap, inl, inr, subst, arith, append_assoc, length-append}
+use Rattle.std.proofs.lemmas.List.{append-nil}
+use Rattle.mm_client.proofs.Below.{Variant, Meaning, last_position, Resumed, Start, Answered, StoreStanding, Slots, slot_front, PendingRecord}
+use Rattle.mm_client.proofs.Below.{pending_spelling, IsWaiting, waiting_position, position_at, IsSession, ServedCall, ServesCalls}
+use Rattle.mm_client.proofs.Below.{SessionPlace, SessionStanding, host_of, SessionFault, served_lines, first_served_call}
+use Rattle.mm_client.proofs.Below.{HasUntoldRequest, IsNextOrLast, WaitsInSlots, one_waiting}
+use Rattle.mm_client.proofs.Below.{reached_position, each_append}
+use Rattle.mm_host.specs.Sessions.{SessionStopsAtOnce}
 use Rattle.mm_client.specs.declared.heard.HeardReply.{HeardReply}
-use Rattle.mm_client.specs.Hearing.{ClientMemory, Hearing, has_heard, heard_position, is_sure_after, lines_to_give, memory_after}
-use Rattle.mm_client.specs.ClientLife.{IsGiven, IsHeard, replies_of}
+use Rattle.mm_client.specs.Hearing.{ClientMemory, Hearing, has_heard, heard_position, is_sure_after, memory_after}
+use Rattle.mm_client.specs.ClientLife.{IsHeard, replies_of}
 use Rattle.mm_client.specs.ServedOnce.{IsMomentOf, IsTrueReply}
-use Rattle.mm_client.proofs.Beginning.{Began, FirstRun, answers, at_start, begins, first_run, lines_run}
-use Rattle.mm_client.proofs.Giving.{LinesGo, given_unbroken, length-served, lines_go, next_line, rest_is, served_unbroken}
-use Rattle.mm_client.proofs.Leaving.{SessionLeaves, as_before, fails, in_hand, records, session_leaves}
-use Rattle.mm_client.proofs.Reading.{IsIn, in_most, record_is, waits_in}
-use Rattle.mm_client.proofs.Replies.{all_true_on, first_positive, heard_all, heard_within, runs_grow, told_true}
+use Rattle.mm_client.proofs.Beginning.{Began, answers, at_start}
+use Rattle.mm_client.proofs.Reading.{waits_in}
+use Rattle.mm_client.proofs.Replies.{all_true_on, heard_within}
 use Rattle.mm_client.proofs.Trace.{IsAsBefore, resumed_so, shown}
 
 -- this is the next of the list behind these requests

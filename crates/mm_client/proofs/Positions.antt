@@ -1,7 +1,7 @@
 -- Each answer that a session told has a position from 1 on.
-use Rattle.std.proofs.Common.{◌≡◌, ◌≤◌, ℕ, List, [], ◌∷◌, ◌++◌, Option, None, Some, Result, Ok, Err, refl, subst, inl, inr}
+use Rattle.std.proofs.Common.{◌≡◌, ◌≤◌, ℕ, List, [], ◌∷◌, Option, None, Some, Result, Ok, Err, refl, subst, inl, inr}
 use Rattle.mm_client.proofs.Below.{Variant, Meaning, Standing, StoreFault, StoreStanding, Answer, Refusal, HostFault, HostStanding, Resumed, Start, Answered, each_append}
-use Rattle.mm_client.proofs.Below.{HostGoesAfterAsk, HostGoesAfterFinding, HostGoesAfterOffer, HostGoesAfterRecord, HostResumes, AsksNextRequest, IsCall, host_of}
+use Rattle.mm_client.proofs.Below.{HostGoesAfterAsk, HostGoesAfterFinding, HostGoesAfterOffer, HostGoesAfterRecord, IsCall, host_of}
 use Rattle.mm_client.proofs.Below.{PendingRecord, ServedCall, ServesCalls, SessionPlace, IsSession, SessionStanding, SessionFault, SessionGoesAfterResume}
 use Rattle.mm_client.proofs.Below.{first_served_call, served_calls_in, result_of_keep, result_of_start}
 use Rattle.mm_client.proofs.Replies.{ArePositive}

@@ -1,10 +1,10 @@
 -- What a session tells is true of the requests, from there on.
 use Rattle.std.specs.List.{AllByRecursion}
-use Rattle.std.proofs.Common.{◌≡◌, ◌≢◌, ◌∙◌, ◌⊎◌, ◌+◌, ◌-◌, ◌≤◌, ◌<◌, ℕ, Bool, true, false, List, [], ◌∷◌, ◌++◌, length, Option, None, Some, Result, Ok, Err}
-use Rattle.std.proofs.Common.{refl, sym, ap, inl, inr, subst, arith, append_assoc, length-append}
+use Rattle.std.proofs.Common.{◌≡◌, ◌∙◌, ◌⊎◌, ◌+◌, ◌-◌, ◌≤◌, ℕ, Bool, true, false, List, [], ◌∷◌, ◌++◌, length, Option, None, Some}
+use Rattle.std.proofs.Common.{refl, sym, ap, inl, inr, arith, append_assoc, length-append}
 use Rattle.std.proofs.lemmas.List.{append-nil}
-use Rattle.mm_client.proofs.Below.{Variant, Meaning, One, Answer, Resumed, Start, Answered, PendingRecord, IsBatchStep, Told, position_at}
-use Rattle.mm_client.proofs.Below.{ServedCall, ServesCalls, SessionPlace, AreNewFrom, CallsRunOver, first_served_call, IsNextOrLast, state_after}
+use Rattle.mm_client.proofs.Below.{Variant, Meaning, One, Resumed, Start, Answered, PendingRecord, IsBatchStep, Told, position_at}
+use Rattle.mm_client.proofs.Below.{ServedCall, ServesCalls, SessionPlace, AreNewFrom, CallsRunOver, first_served_call}
 use Rattle.mm_client.specs.declared.heard.HeardReply.{HeardReply}
 use Rattle.mm_client.specs.Hearing.{heard_position}
 use Rattle.mm_client.specs.ClientLife.{replies_of}

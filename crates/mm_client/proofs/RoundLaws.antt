@@ -1,5 +1,5 @@
 -- The position of the last reply of some.
-use Rattle.std.proofs.Common.{◌≡◌, ◌∙◌, ◌+◌, ℕ, List, [], ◌∷◌, ◌++◌, length, refl, sym, ap, arith, subst, length-append}
+use Rattle.std.proofs.Common.{◌≡◌, ◌∙◌, ◌+◌, ℕ, List, [], ◌∷◌, ◌++◌, refl, sym, ap, subst, length-append}
 use Rattle.mm_client.specs.declared.heard.HeardReply.{HeardReply}
 use Rattle.mm_client.specs.Hearing.{ClientMemory, Hearing, heard_position, lines_to_give, memory_after}
 use Rattle.mm_client.specs.Rounds.{AreRounds, LivesAsClient}

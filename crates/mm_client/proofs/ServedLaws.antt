@@ -1,15 +1,15 @@
 -- A client who alone asks is served once, from a first start, in each variant.
 use Rattle.std.specs.List.{AllByRecursion}
-use Rattle.std.proofs.Common.{◌≡◌, ◌∙◌, ◌⊎◌, ◌+◌, ℕ, true, List, [], ◌∷◌, ◌++◌, length, Option, None, Some, refl, sym, ap, inl, inr, subst, arith}
+use Rattle.std.proofs.Common.{◌≡◌, ◌∙◌, ℕ, true, List, [], ◌∷◌, length, Option, None, Some, refl, sym, ap, inl, inr, subst, arith}
 use Rattle.mm_client.proofs.Below.{Batch, One, IsUnbroken, Instance, IsNextOrLast, LifeStage, Slots, StoreStanding, Standing, IsLife, PendingRecord, WaitsInSlots}
-use Rattle.mm_client.proofs.Below.{History, requests_of, total_of, FitsBy, FitsHistory, IsFirstStore, first_history_on, first_slots, is_first, requests-push}
-use Rattle.mm_client.proofs.Below.{Variant, Meaning, Basic, Opt, basic_instance, opt_instance, BasicLifeGoesOn, OptLifeGoesOn, IsGoneOnWith, IsOverOneStore}
-use Rattle.mm_client.proofs.Below.{AreNoChance, clash_or, life_batches, life_messages, opt_messages, others_values, store_at_end, waiting_position, one_waiting}
+use Rattle.mm_client.proofs.Below.{History, requests_of, FitsBy, IsFirstStore, first_history_on, first_slots, is_first, requests-push}
+use Rattle.mm_client.proofs.Below.{Basic, Opt, basic_instance, opt_instance, BasicLifeGoesOn, OptLifeGoesOn, IsGoneOnWith, IsOverOneStore}
+use Rattle.mm_client.proofs.Below.{AreNoChance, clash_or, life_batches, life_messages, opt_messages, others_values, store_at_end}
 use Rattle.mm_client.specs.ClientLife.{AreNoOthers}
 use Rattle.mm_client.specs.Hearing.{memory_at}
 use Rattle.mm_client.specs.Laws.{BasicClientsAreServedOnce, OptClientsAreServedOnce}
 use Rattle.mm_client.specs.ServedOnce.{IsServedOnce}
-use Rattle.mm_client.proofs.OneSession.{Stands, same_waits, some_is}
+use Rattle.mm_client.proofs.OneSession.{Stands, same_waits}
 use Rattle.mm_client.proofs.ServedLives.{served_at}
 
 -- what waits is the next request or the last, where the slots fit a history

@@ -1,15 +1,15 @@
 -- A life of a client over an honest store, part after part: he is served once.
 use Rattle.std.specs.List.{AllByRecursion}
-use Rattle.std.proofs.Common.{◌≡◌, ◌≢◌, ◌∙◌, ◌⊎◌, ◌+◌, ◌≤◌, ℕ, true, List, [], ◌∷◌, ◌++◌, length, Option, None, Some, Result, Ok, Err, refl, sym, ap, inl}
+use Rattle.std.proofs.Common.{◌≡◌, ◌∙◌, ◌+◌, ◌≤◌, ℕ, true, List, [], ◌∷◌, ◌++◌, length, Option, Some, Err, refl, sym, ap, inl}
 use Rattle.std.proofs.Common.{arith, inr, subst}
 use Rattle.mm_client.proofs.Below.{last_bytes_in}
-use Rattle.mm_client.proofs.Below.{Batch, Variant, Meaning, IsUnbroken, last_position, Store, Standing, StoreStanding, Slots, PendingRecord, Instance, joined_lines}
-use Rattle.mm_client.proofs.Below.{IsSession, ServedCall, SessionStanding, host_of, SessionFault, Host, SessionGoesAfterResume, first_served_call, served_calls_in}
-use Rattle.mm_client.proofs.Below.{IsInHand, found_record, served_calls_of, AreToldOnce, IsNotBeyond, IsNextOrLast, WaitsInSlots, SessionSteps, reached_position}
-use Rattle.mm_client.proofs.Below.{Does, Holds, IsLife, LifePart, LifeStage, PartLeads, Program, session_on, GoesOnOver, LeavesNoChance, PartGoesOn}
+use Rattle.mm_client.proofs.Below.{Batch, Variant, Meaning, IsUnbroken, last_position, Store, Standing, StoreStanding, Slots, PendingRecord, Instance}
+use Rattle.mm_client.proofs.Below.{IsSession, ServedCall, host_of, Host, SessionGoesAfterResume, first_served_call, served_calls_in}
+use Rattle.mm_client.proofs.Below.{IsInHand, found_record, AreToldOnce, IsNotBeyond, IsNextOrLast, WaitsInSlots, SessionSteps, reached_position}
+use Rattle.mm_client.proofs.Below.{Does, Holds, IsLife, LifePart, LifeStage, PartLeads, Program, session_on, LeavesNoChance, PartGoesOn}
 use Rattle.mm_life.specs.HonestLife.{AreNoChance, BeginsOver, GoesOnFrom, IsOverOneStore, store_at_end, store_behind}
 use Rattle.mm_client.specs.Hearing.{ClientMemory, Hearing, lines_to_give, memory_after}
-use Rattle.mm_client.specs.ClientLife.{AreNoOthers, IsClientLife, IsClientPart, IsClientSession, IsGiven, IsHeard, LeavesNoOther}
+use Rattle.mm_client.specs.ClientLife.{AreNoOthers, IsClientLife, IsClientPart, IsGiven, IsHeard, LeavesNoOther}
 use Rattle.mm_client.specs.ServedOnce.{IsServedFrom, PartMakesAll}
 use Rattle.mm_client.proofs.Beginning.{begins}
 use Rattle.mm_client.proofs.GoingOn as going

@@ -1,12 +1,12 @@
 -- What a session leaves in a slot of records: what it held before, or the record of a line that was asked.
 use Rattle.std.specs.Option.{option_map}
-use Rattle.std.proofs.Common.{◌≡◌, ◌≢◌, ◌∙◌, ◌⊎◌, ◌+◌, ◌≤◌, ◌<◌, ◌%◌, ℕ, Bool, true, List, [], ◌∷◌, ◌++◌, length, take, Option, None, Some, Result, Ok, Err}
+use Rattle.std.proofs.Common.{◌≡◌, ◌∙◌, ◌⊎◌, ◌+◌, ◌≤◌, ◌<◌, ◌%◌, ℕ, true, List, [], ◌∷◌, length, take, Option, None, Some, Result, Ok, Err}
 use Rattle.std.proofs.Common.{refl, sym, ap, inl, inr, subst, arith}
 use Rattle.std.proofs.lemmas.Bool.{cases_eq}
 use Rattle.std.proofs.lemmas.Bool.Decides.{nat_tests}
-use Rattle.mm_client.proofs.Below.{Variant, Meaning, Standing, Answer, Refusal, StoreFault, HostFault, Resumed, Answered, store_fault_as, IsLineFront}
+use Rattle.mm_client.proofs.Below.{Variant, Meaning, Answer, Refusal, StoreFault, HostFault, Resumed, Answered, store_fault_as, IsLineFront}
 use Rattle.mm_client.proofs.Below.{longest_request, ReadsSlot, WritesSlot, slots_with_bytes, StoreStanding, Slots, slot_front, slots_with, longest_slot}
-use Rattle.mm_client.proofs.Below.{PendingRecord, pending_spelling, HostStanding, host_standing, FindsWaitingRequest, HostGoesAfterTwo, HostGoesAfterThree, ReadsSlotThree}
+use Rattle.mm_client.proofs.Below.{PendingRecord, pending_spelling, HostStanding, HostGoesAfterTwo, ReadsSlotThree}
 use Rattle.mm_client.proofs.Below.{HostGoesAfterFinding, HostGoesAfterOffer, HostGoesAfterAsk, HostResumes, HostGoesAfterRecord, AsksNextRequest, record_for}
 use Rattle.mm_client.proofs.Below.{position_at, SessionPlace, ServedCall, ServesCalls, AreNewFrom, slot_in-with_slot}
 use Rattle.mm_store.specs.declared.fault.StoreFault.TheVariants as fault

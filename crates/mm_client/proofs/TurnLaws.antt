@@ -1,28 +1,25 @@
 -- A client who takes his turn over an honest store is served once from there on.
 use Rattle.std.specs.List.{AllByRecursion}
-use Rattle.std.proofs.Common.{◌≡◌, ◌≢◌, ◌∙◌, ◌⊎◌, ◌+◌, ◌≤◌, ◌%◌, ℕ, true, false, List, [], ◌∷◌, ◌++◌, length, Option, None, Some, Result, Ok, Err, refl, sym, ap}
+use Rattle.std.proofs.Common.{◌≡◌, ◌∙◌, ◌+◌, ℕ, true, false, List, [], ◌∷◌, ◌++◌, length, Option, None, Some, refl, sym, ap}
 use Rattle.std.proofs.Common.{inl, inr, subst, arith}
 use Rattle.std.proofs.lemmas.List.{append-nil}
 use Rattle.mm_client.proofs.Below.{last_bytes_in}
 use Rattle.mm_client.proofs.Below.{Batch, IsUnbroken, Instance, IsNextOrLast, LifePart, LifeStage, Slots, StoreStanding, Standing, IsLife, PendingRecord}
-use Rattle.mm_client.proofs.Below.{WaitsInSlots, SessionSteps, AreToldOnce, IsInHand, IsNotBeyond, IsSession, SessionGoesAfterResume, ServedCall, ServesCalls}
-use Rattle.mm_client.proofs.Below.{AreNewFrom, CallsRunOver, SessionPlace, host_of, first_served_call, found_record, served_calls_in, served_calls_of}
-use Rattle.mm_client.proofs.Below.{Does, Holds, PartLeads, Program, session_on, PartGoesOn, LeavesNoChance, position_at, last_position, IsFirstStore}
-use Rattle.mm_client.proofs.Below.{Variant, Meaning, Basic, Opt, basic_instance, opt_instance, BasicLifeGoesOn, OptLifeGoesOn, IsGoneOnWith, IsOverOneStore}
-use Rattle.mm_client.proofs.Below.{AreNoChance, clash_or, life_batches, life_messages, opt_messages, others_values, store_at_end, is_first, first_history_on}
-use Rattle.mm_client.proofs.Below.{first_slots}
+use Rattle.mm_client.proofs.Below.{WaitsInSlots, SessionSteps, AreToldOnce, IsInHand, IsSession, SessionGoesAfterResume, ServedCall}
+use Rattle.mm_client.proofs.Below.{AreNewFrom, host_of, served_calls_in, served_calls_of}
+use Rattle.mm_client.proofs.Below.{Does, Holds, PartLeads, Program, session_on, PartGoesOn, LeavesNoChance, position_at}
+use Rattle.mm_client.proofs.Below.{Variant, Meaning, basic_instance, opt_instance, BasicLifeGoesOn, OptLifeGoesOn, IsGoneOnWith, IsOverOneStore}
+use Rattle.mm_client.proofs.Below.{AreNoChance, clash_or, life_batches, life_messages, opt_messages, others_values, store_at_end}
 use Rattle.mm_life.specs.HonestLife.{BeginsOver, GoesOnFrom, store_behind}
-use Rattle.mm_client.specs.declared.heard.HeardReply.{HeardReply}
-use Rattle.mm_client.specs.ClientLife.{AreNoOthers, IsGiven, IsHeard, LeavesNoOther, replies_of}
+use Rattle.mm_client.specs.ClientLife.{AreNoOthers, LeavesNoOther, replies_of}
 use Rattle.mm_client.specs.Hearing.{ClientMemory, Hearing, heard_position, memory_after, memory_at}
-use Rattle.mm_client.specs.ServedOnce.{IsMomentOf}
 use Rattle.mm_client.specs.Turns.{BasicTurnsAreServedOnce, IsServedByTurns, IsServedInTurn, IsTurn, OptTurnsAreServedOnce, TellsPosition}
 use Rattle.mm_client.proofs.Beginning.{begins, first_run}
 use Rattle.mm_client.proofs.Leaving.{keeps_honest, session_leaves}
 use Rattle.mm_client.proofs.OneSession.{Stands, same_waits}
 use Rattle.mm_client.proofs.Reading.{waits_in}
 use Rattle.mm_client.proofs.ServedLaws.{fits_end}
-use Rattle.mm_client.proofs.ServedLives.{Behind, fits_ahead, served_at, session_behind, told_same}
+use Rattle.mm_client.proofs.ServedLives.{fits_ahead, served_at, session_behind, told_same}
 use Rattle.mm_client.proofs.Trace.{resumed_so}
 
 -- anybody's session leaves the store as honest

@@ -1,10 +1,10 @@
 -- A careful client, where others ask at any time, or write the slots.
-use Rattle.std.specs.Prelude.{◌≡◌, ◌+◌, ◌≤◌, ℕ, Bool, true, false, List, [], ◌∷◌, ◌++◌, drop, take, length, nat_eq, Option, Result, if◌then◌else◌, ◌⊎◌}
+use Rattle.std.specs.Prelude.{◌≡◌, ◌≤◌, ℕ, Bool, true, false, List, [], ◌∷◌, ◌++◌, drop, take, length, nat_eq, Option, Result, if◌then◌else◌, ◌⊎◌}
 use Rattle.std.specs.List.{AllByRecursion}
 use Rattle.std.proofs.Common.{inl, inr}
 use Rattle.mm_client.specs.Below.{Variant, Standing, Meaning, ServedCall, SessionFault, HasUntoldRequest, HostFault, HostStanding, Resumed}
 use Rattle.mm_client.specs.Below.{IsUnbroken}
-use Rattle.mm_client.specs.Below.{SessionGoesAfterResume, Does, Holds, IsInHandOf, IsLife, LifeFollows, LifePart, LifeStage, PartLeads, PartSteps, served_calls_of}
+use Rattle.mm_client.specs.Below.{SessionGoesAfterResume, Does, Holds, IsLife, LifeFollows, LifePart, LifeStage, PartLeads, PartSteps, served_calls_of}
 use Rattle.mm_client.specs.declared.heard.HeardReply.{HeardReply}
 use Rattle.mm_client.specs.ClientLife.{IsGiven, IsHeard}
 use Rattle.mm_client.specs.Hearing.{Hearing, heard_position}

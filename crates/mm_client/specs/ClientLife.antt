@@ -1,7 +1,7 @@
 -- A life in which one client gives the lines of all sessions.
 use Rattle.std.specs.Prelude.{◌≡◌, ◌+◌, ℕ, true, List, [], ◌∷◌, ◌++◌, Option, Some, Result, Ok, Err}
 use Rattle.mm_client.specs.Below.{Variant, Standing, Meaning, PendingRecord, Store, SessionFault, Host, IsInHand, served_calls_in}
-use Rattle.mm_client.specs.Below.{ServedCall, Deed, served_calls_of, Does, Holds, IsLife, LifePart, LifeStage, PartLeads}
+use Rattle.mm_client.specs.Below.{ServedCall, served_calls_of, Does, Holds, IsLife, LifePart, LifeStage, PartLeads}
 use Rattle.mm_client.specs.Below.{WaitsInSlots, reached_position, joined_lines}
 use Rattle.mm_client.specs.declared.heard.HeardReply.{HeardReply}
 use Rattle.mm_client.specs.Hearing.{ClientMemory, Hearing, lines_to_give, memory_after}

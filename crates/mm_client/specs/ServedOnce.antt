@@ -1,8 +1,8 @@
 -- Each line that a client wants is run once, in order, and he is told what was said to it.
-use Rattle.std.specs.Prelude.{◌≡◌, ◌≤◌, ◌+◌, ℕ, true, List, [], ◌∷◌, ◌++◌, Option, Some, Result, Ok, length, ◌⊎◌}
+use Rattle.std.specs.Prelude.{◌≡◌, ◌≤◌, ◌+◌, ℕ, true, List, [], ◌∷◌, ◌++◌, Some, Ok, length}
 use Rattle.std.specs.List.{AllByRecursion}
-use Rattle.mm_client.specs.Below.{Variant, Basic, Standing, Batch, IsLawful, Meaning, state_after, first_history, Instance, basic_instance}
-use Rattle.mm_client.specs.Below.{StandsFor, StoreStanding, Does, Holds, IsLife, LifePart, LifeStage, PartLeads}
+use Rattle.mm_client.specs.Below.{Standing, Batch, Meaning, state_after, Instance}
+use Rattle.mm_client.specs.Below.{StoreStanding, Does, Holds, IsLife, LifePart, LifeStage}
 use Rattle.mm_client.specs.Below.{IsGoneOnWith, PartGoesOn, joined_lines}
 use Rattle.mm_client.specs.declared.heard.HeardReply.{HeardReply}
 use Rattle.mm_client.specs.Hearing.{ClientMemory, lines_to_give, memory_at}
