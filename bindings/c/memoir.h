@@ -43,9 +43,10 @@
  *     4. tell the reply
  *
  * To start, each time, whatever stopped the last program: read the cell, for memoir_cell_instance. Write again what the
- * slots have, and sync it, as a system may answer that a sync is done whose bytes it lost before. Take the later record of slots 2 and 3 (memoir_read_pending). Where there is none, slot 0 has
- * the newest snapshot and nothing was asked. Else it is of some position P: ask its request with the snapshot of slot
- * (P - 1) mod 2, by 2 to 4. It gets the reply that it had, or would have had.
+ * slots have, and sync it, as a system may answer that a sync is done whose bytes it lost before. Take the later record of
+ * slots 2 and 3 (memoir_read_pending). Where there is none, slot 0 has the newest snapshot and nothing was asked. Else it
+ * is of some position P: ask its request with the snapshot of slot (P - 1) mod 2, by 2 to 4. It gets the reply that it had,
+ * or would have had.
  *
  * After MEMOIR_DEVICE the request was committed or it wasn't: ask the same again on the same snapshot, from no steps on,
  * or start anew; and nothing else before. Where MEMOIR_DEVICE comes again and again, nothing is lost by that: mend the
