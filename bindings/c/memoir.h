@@ -8,19 +8,22 @@
  *     memoir_ask(instance, steps, 1, ..)   says MEMOIR_NEXT: write these 104 bytes to the cell
  *     memoir_ask(instance, steps, 2, ..)   says MEMOIR_DONE: position, output, snapshot
  *
- * THE DEVICES are a cell of 104 bytes and, in Opt, a register of 32. What is told is one run of the module on one list
- * of requests, as long as all of this holds. Nothing here can see where it doesn't.
+ * THE DEVICES are a cell of 104 bytes and, in Opt, a register of 32. Basic writes the cell for each request. In Opt the
+ * first request opens a segment: it writes the cell, and each later one only extends the register, until
+ * memoir_checkpoint closes the segment. What is told is one run of the module on one list of requests, as long as all of
+ * this holds. Nothing here can see where it doesn't.
  *
  * - The cell is secret, and this program's alone: nobody else reads it, writes it or puts an older one back. Who reads
  *   it can seal snapshots; who puts it back rolls the module back.
  * - A step has its effect as a whole or not at all, once, and never later than its answer. What the cell has outlives a
- *   loss of power.
+ *   loss of power, from the moment at which a read shows it: where the cell is a file, write again and sync what it has
+ *   before the first read of each program, and behind each write that was answered with a fault.
  * - One call at a time: from the first step of a call to its last no other call makes one on this cell and register. Of
  *   two that do, by turns, both may be told as done at one position, and one of the requests is gone.
  * - The steps that are passed were made for this call, since it began. None is passed on behind a stop of the program,
  *   nor to another call: what a call says depends on them alone, so it doesn't see that a cell was written since.
  * - Others may extend the register; that can stop the module for good, and no more. Nobody resets it or puts an older
- *   value back. Behind a loss of power it is 32 zero bytes.
+ *   value back. Behind a loss of power it is 32 zero bytes; inside an open segment that loses the module for good.
  * - BEHIND A LOSS OF POWER, OR OF WHAT THE CELL OR THE REGISTER HELD, NO FURTHER STEP OF THE SAME CALL IS MADE: answer
  *   MEMOIR_OFF to the step in hand, and begin the call anew. So too where that can't be told, as when a connection to
  *   the device was opened anew. A call of Opt that goes on over an emptied register undoes what was told.
@@ -30,10 +33,13 @@
  * one of which that isn't sure may not.
  *
  * THE HOST keeps four slots on a disk: 0 and 1 have snapshots, 2 and 3 have records. Each write is on the disk, the
- * file's name too, before what follows it.
+ * file's name too, before what follows it. The slots aren't secret, nor is a record sealed: who reads them reads the
+ * module's state and the requests, and who writes them can have any request asked, or stop the module. He can't undo or
+ * forge what was told.
  *
  * To make an instance, once, where the cell is 104 zero bytes: memoir_provision, with 64 secret random bytes. Write
- * slots 1, 2 and 3 empty and the snapshot to slot 0, and the cell last: before that nothing exists.
+ * slots 1, 2 and 3 empty and the snapshot to slot 0, and the cell last: before that nothing exists. What the register
+ * holds doesn't matter.
  *
  * To ask a request, of the position P behind that of the last answer (1 at first):
  *
@@ -42,11 +48,18 @@
  *     3. write the answer's snapshot to the slot of its position mod 2
  *     4. tell the reply
  *
+ * The position that is answered is P, and `again` is 0, but at a start and where a call is begun anew. Where it isn't so,
+ * the slots weren't those that were left: an old record may have been asked as a new request, or this request taken for
+ * the last one. What is told is one list all the same: go on from the position that is answered, or stop and say so.
+ *
  * To start, each time, whatever stopped the last program: read the cell, for memoir_cell_instance. Write again what the
- * slots have, and sync it, as a system may answer that a sync is done whose bytes it lost before. Take the later record of
- * slots 2 and 3 (memoir_read_pending). Where there is none, slot 0 has the newest snapshot and nothing was asked. Else it
- * is of some position P: ask its request with the snapshot of slot (P - 1) mod 2, by 2 to 4. It gets the reply that it had,
- * or would have had.
+ * slots have, and sync it, as a system may answer that a sync is done whose bytes it lost before; at each moment the file
+ * has these bytes (a new file, synced and renamed, or the old bytes written over, never a file that is cut first), as a
+ * slot that is lost here isn't made again. Take the record of slots 2 and 3 (memoir_read_pending) that is of the later
+ * position; one of them may be none. Where neither is one, and the slots are those that were left, slot 0 has the newest
+ * snapshot and nothing was asked. Else it is of some position P: ask its request with the snapshot of slot (P - 1) mod 2,
+ * by 2 to 4. It gets the reply that it had, or would have had. Where that is refused with MEMOIR_FORM to MEMOIR_STALE, the
+ * slots aren't those that were left, and nothing was changed: put those back, and start again.
  *
  * After MEMOIR_DEVICE the request was committed or it wasn't: ask the same again on the same snapshot, from no steps on,
  * or start anew; and nothing else before. Where MEMOIR_DEVICE comes again and again, nothing is lost by that: mend the
@@ -58,8 +71,9 @@
  * is passed. None is called from a signal's handler. What is to be kept between two calls, the host keeps.
  *
  * WITHOUT A C LIBRARY write memcpy, memmove and memset, and in place of liblibc_c.a these three functions. n may be 0 and
- * is below 2^63; a is at most 16, and a block is aligned to it. The first `kept` bytes of a block that moves stay. Where
- * `ok` is false, p points to some byte that is there, and the old block is as it was.
+ * is below 2^63; a is at most 16, and a block is aligned to it. The first `kept` bytes of a block that moves stay: at most
+ * n, and at most as many as it has. Where `ok` is false, p points to some byte that is there, and the old block is as it
+ * was.
  *
  *     struct tried { bool ok; void *p; };
  *     struct tried rattle_alloc(size_t n, size_t a);
@@ -107,7 +121,7 @@ extern "C" {
 #define MEMOIR_DEVICE 3
 /* The cell is blank: 104 zero bytes. */
 #define MEMOIR_BLANK 4
-/* The cell isn't one of this variant and module; of a checkpoint, it is none. */
+/* The cell isn't a live one of this variant and module; of a checkpoint, it is none. */
 #define MEMOIR_OTHER_CELL 5
 /* Power was lost inside an open segment of Opt. There is no way on. */
 #define MEMOIR_LOST 6
@@ -128,8 +142,9 @@ extern "C" {
 /* The call isn't over: make the step that is told, and call again with it behind the others. */
 #define MEMOIR_NEXT 16
 /* The steps that were made aren't those of this call: another request, another offer, a step left out or changed, or
- * steps behind the call's end. What they did isn't told: begin anew, as after MEMOIR_DEVICE. A host that makes the steps
- * that it is told, and passes the same instance, offer and request, never hears it. */
+ * steps behind the call's end. (Steps that read alone may be those of the other request too, which is then answered.) What
+ * they did isn't told: begin anew, as after MEMOIR_DEVICE. A host that makes the steps that it is told, and passes the
+ * same instance, offer and request, never hears it. */
 #define MEMOIR_DIFFERS 17
 /* A checkpoint found no open segment, and changed nothing. */
 #define MEMOIR_NO_SEGMENT 18
@@ -201,7 +216,7 @@ struct memoir_instance {
 #define MEMOIR_OFF 2
 
 /* A device step. Where a function tells one, `answer` is MEMOIR_OK, and what isn't written is zero. The host makes it,
- * sets `answer`, and what was read, and leaves the rest. */
+ * sets `answer`, and what was read (anything, where the answer is a fault), and leaves the rest. */
 struct memoir_step {
     uint8_t kind;
     uint8_t answer;
@@ -254,7 +269,8 @@ struct memoir_first {
 uint8_t memoir_module_id(const uint8_t *name, size_t name_length);
 
 /* Writes the variant and the module of the instance that a cell with these bytes holds: so a start learns them. Says
- * MEMOIR_DONE, MEMOIR_BLANK (104 zero bytes) or MEMOIR_OTHER_CELL (no cell, or one of no module here). */
+ * MEMOIR_DONE, MEMOIR_BLANK (104 zero bytes) or MEMOIR_OTHER_CELL (no cell, one of no module here, or one that is retired
+ * or waits for a ticket). */
 uint32_t memoir_cell_instance(const uint8_t cell[MEMOIR_CELL], struct memoir_instance *instance);
 
 /* The room that is enough for what memoir_ask and memoir_provision write of the module with this id: 69,746 bytes, and
@@ -279,7 +295,7 @@ uint32_t memoir_ask(const struct memoir_instance *instance, const struct memoir_
  * one after another, of which the reply has the last. The output has a line for each: what is said to it, and an LF, byte
  * 10. Records and slots as THE HOST has them are for single requests, as they go by turns of a position: who asks batches
  * keeps the text, and the snapshot that it is asked on, until the next batch's are kept. After a stop the very same text
- * is asked again on that snapshot. */
+ * is asked again on that snapshot. Ask one kind alone of an instance. */
 uint32_t memoir_ask_batch(const struct memoir_instance *instance, const struct memoir_step *steps, size_t step_count,
                           const uint8_t *offer, size_t offer_length, const uint8_t *requests, size_t requests_length,
                           struct memoir_reply *reply, uint8_t *room, size_t room_length);
@@ -293,17 +309,17 @@ void memoir_forget(struct memoir_kept *kept);
 uint8_t memoir_is_kept(const struct memoir_kept *kept, const uint8_t *memory, size_t memory_length);
 
 /* The same as memoir_ask, and in about half the time: with what memoir_forget or the last such call left in `kept`, and
- * with the same memory of the same length, which both are written whatever it says. A memory of any length is enough; of
- * twice memoir_room it has room for all that is to be kept. */
+ * with the same memory of the same length, which both are written whatever it says; for another memory memoir_forget
+ * first. A memory of any length is enough; of twice memoir_room it has room for all that is to be kept. */
 uint32_t memoir_ask_keeping(const struct memoir_instance *instance, const struct memoir_step *steps, size_t step_count,
                             const uint8_t *offer, size_t offer_length, const uint8_t *request, size_t request_length,
                             struct memoir_kept *kept, uint8_t *memory, size_t memory_length,
                             struct memoir_reply *reply, uint8_t *room, size_t room_length);
 
 /* What a checkpoint of Opt comes to with these steps made, on the cell of any module. Close the segment before power is
- * taken away. MEMOIR_NEXT writes the step that is to be made. It says MEMOIR_DONE, MEMOIR_NO_SEGMENT, MEMOIR_DEVICE,
- * MEMOIR_BLANK, MEMOIR_OTHER_CELL, MEMOIR_LOST, MEMOIR_KIND, MEMOIR_NEXT, MEMOIR_DIFFERS, MEMOIR_TOO_MANY or
- * MEMOIR_NO_STEP. */
+ * taken away. It needs no slot, and may come between any two calls, behind MEMOIR_DEVICE too. MEMOIR_NEXT writes the step
+ * that is to be made. It says MEMOIR_DONE, MEMOIR_NO_SEGMENT, MEMOIR_DEVICE, MEMOIR_BLANK, MEMOIR_OTHER_CELL, MEMOIR_LOST,
+ * MEMOIR_KIND, MEMOIR_NEXT, MEMOIR_DIFFERS, MEMOIR_TOO_MANY or MEMOIR_NO_STEP. */
 uint32_t memoir_checkpoint(const struct memoir_step *steps, size_t step_count, struct memoir_step *next);
 
 /* MOVES: a module leaves one platform for another, with its one list of requests. Both share a link of 64 secret random
@@ -354,7 +370,8 @@ uint32_t memoir_accept(const struct memoir_instance *instance, const struct memo
                        struct memoir_moved *reply, uint8_t *room, size_t room_length);
 
 /* Writes the record of the request that is to take this position, and its length: 48 bytes more than the request's.
- * Says MEMOIR_DONE, MEMOIR_NO_POSITION, MEMOIR_LONG, MEMOIR_MEMORY or MEMOIR_NO_ROOM. */
+ * Says MEMOIR_DONE, MEMOIR_NO_POSITION (behind 2^48: say to the user what MEMOIR_FULL is), MEMOIR_LONG, MEMOIR_MEMORY or
+ * MEMOIR_NO_ROOM. */
 uint32_t memoir_pending(uint64_t position, const uint8_t *request, size_t request_length, size_t *record_length,
                         uint8_t *room, size_t room_length);
 
