@@ -6,4 +6,5 @@ pub use Rattle.mm_life.proofs.OneCall.{AreListed}
 pub use Rattle.mm_life.proofs.Sessions.{IsFirstGenuine}
 pub use Rattle.mm_life.proofs.Standings.{StandsSomewhere, deed_stands, life_stands}
 pub use Rattle.mm_life.proofs.OptCaller.{Told, started_told}
+pub use Rattle.mm_life.proofs.OptLife.{opt_first_genuine, opt_first_within, opt_life, seen_unless}
 pub use Rattle.mm_life.proofs.Tellings.{Ran, ran_none, ran_part, ran_same}

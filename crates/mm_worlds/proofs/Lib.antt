@@ -12,9 +12,6 @@ mod BasicWorld
 mod Promises
 mod Decided
 mod Crossings
-mod OptSeen
-mod OptIdling
-mod OptParts
 mod OptCells
 mod OptBeside
 mod OptNames

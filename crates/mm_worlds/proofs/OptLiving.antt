@@ -25,7 +25,7 @@ use Rattle.mm_life.specs.OneList.{PartSteps}
 use Rattle.mm_life.specs.PartsElsewhere.{FindsNoCell, PartsAreRefusedElsewhere}
 use Rattle.mm_life.specs.Premises.{IsUntagged, bytes_unless_idle, closing_messages, shown_messages, snapshots_of}
 use Rattle.mm_life.specs.Stages.{Does, Holds, LifePart, PartLeads, part_calls}
-use Rattle.mm_life.proofs.Above.{AreListed, IsFirstGenuine}
+use Rattle.mm_life.proofs.Above.{AreListed, IsFirstGenuine, opt_life, part_lives, seen_unless}
 use Rattle.mm_move.specs.declared.cell.MovedCell.{MovedCell}
 use Rattle.mm_move.specs.declared.cell.MovedCell.TheVariants as moved
 use Rattle.mm_move.specs.declared.link.Link.{Link}
@@ -44,7 +44,6 @@ use Rattle.mm_worlds.proofs.OptCells.{HoldsCell, HoldsOwn, held_told, key_held, 
 use Rattle.mm_worlds.proofs.OptKept.{StandsInOrder, handed_more, kept_still}
 use Rattle.mm_worlds.proofs.OptNames.{names_key, within_key}
 use Rattle.mm_worlds.proofs.OptOrders.{goes_on_left, order_lived}
-use Rattle.mm_worlds.proofs.OptParts.{opt_part_lives, seen_unless}
 
 -- Snapshots under keys.
 
@@ -191,7 +190,7 @@ module _ (meaning : Meaning) (lawful : IsLawful meaning) (link : Link) (all othe
     quiet_here c i role =
         let part : LifePart = Does (Extends beside.values) in
         let w : IsShown [] [] Live = subst (λ (r : Role). IsShown [] [] r) role shown in
-        let l = opt_part_lives meaning lawful (key_of old) link.barrier all others asked clear guarded y old part new (same, beside.items)
+        let l = part_lives (opt_life meaning lawful (key_of old) link.barrier all others asked clear guarded) y old part new (same, beside.items)
         i.stands i.within (seen_unless meaning lawful (key_of old) link.barrier all others old part new [] (is_idle old []) refl w.messages
         w.values) tt (record { messages = tt; batches = tt }) in
         record {
@@ -253,7 +252,7 @@ module _ (meaning : Meaning) (lawful : IsLawful meaning) (link : Link) (all othe
     lives_on : (c : Cell) → IsHere c → IsFirstGenuine here y calls → AreListed all asked here calls
         → IsShown calls (closing_messages part old.cell new.items) Live → PartLived
     lives_on c i first listed w =
-        let l = opt_part_lives meaning lawful (key_of old) link.barrier all others asked clear guarded y old part new f i.stands i.within
+        let l = part_lives (opt_life meaning lawful (key_of old) link.barrier all others asked clear guarded) y old part new f i.stands i.within
         (seen_unless meaning lawful (key_of old) link.barrier all others old part new calls (is_idle old calls) refl w.messages w.values)
         first listed in
         record {

@@ -12,6 +12,7 @@ use Rattle.mm_model.specs.ListLaws.{each_left, each_right, each_self}
 use Rattle.mm_model.specs.Messages.{AreMessagesIn, AreNoGuards, IsClear}
 use Rattle.mm_model.specs.Standing.{IsGenuine, StandsFor, cell_of}
 use Rattle.mm_call.proofs.Above.{each_at}
+use Rattle.mm_life.proofs.Above.{opt_first_genuine, opt_first_within}
 use Rattle.mm_life.specs.PartsElsewhere.{PartsAreRefusedElsewhere}
 use Rattle.mm_life.specs.Premises.{IsUntagged, call_batches}
 use Rattle.mm_move.specs.declared.cell.MovedCell.{MovedCell}
@@ -39,7 +40,6 @@ use Rattle.mm_worlds.proofs.OptCells.{HoldsCell, HoldsOwn, key_held, role_held}
 use Rattle.mm_worlds.proofs.OptInviting.{kept_inviting}
 use Rattle.mm_worlds.proofs.OptKept.{StandsInOrder}
 use Rattle.mm_worlds.proofs.OptLiving.{kept_living, under_genuine}
-use Rattle.mm_worlds.proofs.OptParts.{first_genuine, first_within}
 use Rattle.mm_worlds.proofs.OptRetiring.{IsFineOffer, kept_retiring}
 
 module _ (meaning : Meaning) (lawful : IsLawful meaning) (link : Link) (all others : List (List ℕ)) (asked : List Batch)
@@ -209,8 +209,8 @@ module _ (meaning : Meaning) (lawful : IsLawful meaning) (link : Link) (all othe
                 | inr there ↦ absurd there.1
               ];
         };
-        within = first_within meaning lawful link.key link.barrier start.values all others asked started;
-        named = (first_genuine meaning lawful key link.barrier start.values, tt);
+        within = opt_first_within meaning lawful link.key link.barrier start.values all others asked started;
+        named = (opt_first_genuine meaning lawful key link.barrier start.values, tt);
         papers = tt;
       }
 
