@@ -2,7 +2,7 @@
 use Rattle.std.specs.List.{AllByRecursion, Contains}
 use Rattle.std.specs.Prelude.{◌||◌, not}
 use Rattle.std.specs.Str.{bytes_eq}
-use Rattle.std.proofs.Common.{◌≡◌, ◌∙◌, ◌++◌, ℕ, false, List, [], Option, None, Some, Result, Ok, Err, refl, sym, ap, subst, inl, inr}
+use Rattle.std.proofs.Common.{◌≡◌, ◌∙◌, ◌++◌, ℕ, Bool, true, false, List, [], Option, None, Some, Result, Ok, Err, refl, sym, ap, subst, inl, inr}
 use Rattle.std.proofs.lemmas.List.{append-nil}
 use Rattle.mm_digest.specs.Messages.{zero_bytes}
 use Rattle.mm_digest.specs.LengthLaws.{length-zero_bytes}
@@ -43,17 +43,21 @@ use Rattle.mm_worlds.proofs.Orders.{arrived, order_arrived}
 use Rattle.mm_worlds.proofs.Papers.{not_false, passes, ticket_formed}
 use Rattle.mm_worlds.proofs.Kept.{StandsInOrder, given_snapshots, handed_more, kept_still}
 
+neither : (flag same : Bool) → (flag || not same) ≡ false → same ≡ true
+neither false true e = refl
+neither _ _ e = absurd (cc)
+
 module _ (meaning : Meaning) (link : Link) (ticket : List ℕ) where
   -- what an acceptance is ready with: it answers with what a right ticket says
-  record Answers (key : List ℕ) (ready : ReadyMove Accepted) : Type 0 where
-    content : TicketContent
-    right : right_ticket meaning Basic link.key ticket ≡ Ok content
-    answer_is : ready.answer ≡ acceptance_of key content.content
+  pub record Answers (key : List ℕ) (ready : ReadyMove Accepted) : Type 0 where
+    pub content : TicketContent
+    pub right : right_ticket meaning Basic link.key ticket ≡ Ok content
+    pub answer_is : ready.answer ≡ acceptance_of key content.content
 
-  record Enters (c : WaitingCell) (ready : ReadyMove Accepted) : Type 0 where
-    answers : Answers c.key ready
-    nonce : answers.content.nonce ≡ c.nonce
-    next_is : ready.next ≡ Some (cell_spelling (live_cell_from c answers.content.content))
+  pub record Enters (c : WaitingCell) (ready : ReadyMove Accepted) : Type 0 where
+    pub answers : Answers c.key ready
+    pub nonce : answers.content.nonce ≡ c.nonce
+    pub next_is : ready.next ≡ Some (cell_spelling (live_cell_from c answers.content.content))
 
   enters_by : (c : WaitingCell) (ready : ReadyMove Accepted) (read : Result TicketContent MoveRefusal)
       → right_ticket meaning Basic link.key ticket ≡ read → acceptance_by c read ≡ Ok ready → Enters c ready
@@ -68,25 +72,33 @@ module _ (meaning : Meaning) (link : Link) (ticket : List ℕ) where
         next_is = sym (ap (λ (r : ReadyMove Accepted). r.next) same);
       }
 
-  enters_ready : (c : WaitingCell) (ready : ReadyMove Accepted) → acceptance_in meaning Basic link ticket (Ok (moved.Waiting c)) ≡ Ok ready
+  pub enters_ready : (c : WaitingCell) (ready : ReadyMove Accepted) → acceptance_in meaning Basic link ticket (Ok (moved.Waiting c)) ≡ Ok ready
       → Enters c ready
   enters_ready c ready e =
       let own = passes (is_other Basic meaning.id c.variant c.module) _ _ ready e in
       enters_by c ready (right_ticket meaning Basic link.key ticket) refl own.1
 
+  -- what one is ready with that was made before: the cell has the ticket's summary
+  pub record Repeats (c : Cell) (ready : ReadyMove Accepted) : Type 0 where
+    pub answers : Answers c.key ready
+    pub summary : (summary_in answers.content.content.place).bytes ≡ c.summary.bytes
+    pub next_is : ready.next ≡ None
+
   again_by : (c : Cell) (ready : ReadyMove Accepted) (read : Result TicketContent MoveRefusal)
-      → right_ticket meaning Basic link.key ticket ≡ read → acceptance_again_by c read ≡ Ok ready
-      → Answers c.key ready × (ready.next ≡ None)
+      → right_ticket meaning Basic link.key ticket ≡ read → acceptance_again_by c read ≡ Ok ready → Repeats c ready
   again_by c ready (Err why) is e = absurd (cc)
   again_by c ready (Ok content) is e =
       let a = passes (c.flag || not (bytes_eq (summary_in content.content.place).bytes c.summary.bytes)) _ _ ready e in
-      let same : record { next = None; answer = acceptance_of c.key content.content } ≡ ready = (let both = a.1 in cc) in (
-        record { content = content; right = is; answer_is = sym (ap (λ (r : ReadyMove Accepted). r.answer) same) },
-        sym (ap (λ (r : ReadyMove Accepted). r.next) same),
-      )
+      let same : record { next = None; answer = acceptance_of c.key content.content } ≡ ready = (let both = a.1 in cc) in
+      record {
+        answers = record { content = content; right = is; answer_is = sym (ap (λ (r : ReadyMove Accepted). r.answer) same) };
+        summary = bytes_tell (summary_in content.content.place).bytes c.summary.bytes
+            (neither c.flag (bytes_eq (summary_in content.content.place).bytes c.summary.bytes) a.0);
+        next_is = sym (ap (λ (r : ReadyMove Accepted). r.next) same);
+      }
 
-  again_ready : (c : Cell) (ready : ReadyMove Accepted) → acceptance_in meaning Basic link ticket (Ok (moved.Live c)) ≡ Ok ready
-      → Answers c.key ready × (ready.next ≡ None)
+  pub again_ready : (c : Cell) (ready : ReadyMove Accepted) → acceptance_in meaning Basic link ticket (Ok (moved.Live c)) ≡ Ok ready
+      → Repeats c ready
   again_ready c ready e =
       let own = passes (is_other Basic meaning.id c.variant c.module) _ _ ready e in
       again_by c ready (right_ticket meaning Basic link.key ticket) refl own.1
@@ -214,10 +226,10 @@ module _ (meaning : Meaning) (link : Link) (all : List (List ℕ)) (asked : List
       enters c e h ready r result gives (wrote ∙ sym n ∙ r.next_is) s.going s.order s.papers
   comes (Some (moved.Live c)) e h result (made ready bytes f n wrote gives) =
       let r = again_ready meaning link ticket c ready f in
-      let clash : None ≡ Some bytes = sym r.1 ∙ n in absurd (cc)
+      let clash : None ≡ Some bytes = sym r.next_is ∙ n in absurd (cc)
   comes (Some (moved.Live c)) e h result (repeated ready f n same gives) =
       let r = again_ready meaning link ticket c ready f in
-      still result same (λ accepted is. genuine c.key ready r.0 accepted (answer_of result ready.answer accepted gives is))
+      still result same (λ accepted is. genuine c.key ready r.answers accepted (answer_of result ready.answer accepted gives is))
 
   pub kept_accepting : (result : Result Accepted MoveRefusal)
       → MovePromise (λ bytes. acceptance_in meaning Basic link ticket (moved_cell_of bytes)) old new result → Kept result

@@ -61,7 +61,7 @@ module _ (meaning : Meaning) (lawful : IsLawful meaning) (link : Link) (all : Li
         each_at (IsGenuine here y) (snapshots_under (key_of old) handed.snapshots) offer
         (under_genuine meaning link y (key_of old) handed.snapshots s.named) (u content right) content right
 
-    offered_genuine : (offer : List ℕ) (held : Option MovedCell) → HoldsCell meaning.id old held
+    pub offered_genuine : (offer : List ℕ) (held : Option MovedCell) → HoldsCell meaning.id old held
         → AllByRecursion (IsUntagged here (snapshots_under (key_of old) handed.snapshots)) (offers_to (role_of old) offer)
         → IsOrWas held → IsGenuine here y offer
     offered_genuine offer (Some (moved.Live c)) h u is =
@@ -131,7 +131,7 @@ module _ (meaning : Meaning) (lawful : IsLawful meaning) (link : Link) (all : Li
       record { after = r.after; stands = r.stands; follows = (requests_of p.after.batches, p.steps, r.follows) }
 
   -- the start
-  starts : (world : World) → IsWorldAtStart Basic meaning link world → Contains all (start_message Basic meaning.id)
+  pub starts : (world : World) → IsWorldAtStart Basic meaning link world → Contains all (start_message Basic meaning.id)
       → Stands world first_history (first_handed Basic meaning link world)
   starts world start started =
       let key : List ℕ = key_of (world 0) in
@@ -177,7 +177,7 @@ module _ (meaning : Meaning) (lawful : IsLawful meaning) (link : Link) (all : Li
     is_live other role =
         live_role (s.cells other) (sym (role_held meaning.id (world other) (s.cells other) (s.order.holds other)) ∙ role)
 
-    somewhere : (going : Option (List ℕ)) → IsInOrder meaning link world s.cells going y handed.nonces
+    pub somewhere : (going : Option (List ℕ)) → IsInOrder meaning link world s.cells going y handed.nonces
         → IsSomewhere Basic meaning link world y
     somewhere (Some going) o = travels (λ other role. o.placed other (is_live other role))
     somewhere None o =

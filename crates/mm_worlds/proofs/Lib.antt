@@ -29,3 +29,4 @@ mod OptAccepting
 mod OptWorld
 mod Journeys
 mod Moving
+pub mod Above

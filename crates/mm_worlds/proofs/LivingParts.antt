@@ -199,16 +199,28 @@ module _ (meaning : Meaning) (lawful : IsLawful meaning) (link : Link) (all : Li
   finds_none held h away (Does LosesPower) = lives_elsewhere held h away Basic meaning.id
   finds_none held h away (Does (Checkpoints said)) = λ id. lives_elsewhere held h away Opt id
 
-  elsewhere : (held : Option MovedCell) → HoldsCell meaning.id old held → (IsLiveCell held → ⊥) → PartLived
-  elsewhere held h away =
+  -- where the module isn't, the history, the list and the cell are left
+  pub record IsLeftElsewhere : Type 0 where
+    pub stands : StandsInOrder meaning link all asked (changed_at world at new) y
+        (handed_more meaning link all asked handed (keyed_snapshots (key_of old) (snapshots_of calls)) [] [])
+    pub steps : PartSteps Basic meaning old part new f (requests_of y.batches) (requests_of y.batches)
+    pub cell : new.cell ≡ old.cell
+
+  pub left_elsewhere : (held : Option MovedCell) → HoldsCell meaning.id old held → (IsLiveCell held → ⊥) → IsLeftElsewhere
+  left_elsewhere held h away =
       let x = refuses Basic meaning old part new f (finds_none held h away part) in
       record {
-        after = y;
         stands = kept_still meaning link all asked world y handed s at new x.cell (keyed_snapshots (key_of old) (snapshots_of calls))
             [] []
             (rw (none_issued meaning link y calls x.refused) tt) tt;
         steps = part_refused Basic meaning (requests_of y.batches) old part new f x.refused;
+        cell = x.cell;
       }
+
+  elsewhere : (held : Option MovedCell) → HoldsCell meaning.id old held → (IsLiveCell held → ⊥) → PartLived
+  elsewhere held h away =
+      let x = left_elsewhere held h away in
+      record { after = y; stands = x.stands; steps = x.steps }
 
   lives_on : (c : Cell) → s.cells at ≡ Some (moved.Live c) → HoldsOwn meaning.id old (moved.Live c)
       → IsFirstGenuine here y calls → AreListed all asked here calls → (going : Option (List ℕ))

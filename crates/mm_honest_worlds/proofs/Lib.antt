@@ -1,0 +1,3 @@
+mod OneHistory
+mod Arriving
+mod GoingOn
