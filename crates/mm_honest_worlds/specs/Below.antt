@@ -20,6 +20,10 @@ pub use Rattle.mm_life.specs.Deeds.{Calls}
 pub use Rattle.mm_life.specs.HonestLife.{LeavesNoChance, PartGoesOn}
 pub use Rattle.mm_life.specs.Premises.{call_batches}
 pub use Rattle.mm_life.specs.Stages.{Does, Holds, LifePart, PartLeads}
+pub use Rattle.mm_life.specs.OneStore.{KeepsStore}
+pub use Rattle.mm_worlds.specs.Crossing.{BothSites, SiteStanding, accepted_at, invited_at, retired_at, session_at, site_standing}
+pub use Rattle.mm_worlds.specs.Crossing.{two_platforms}
+pub use Rattle.mm_worlds.specs.Evidence.{HasWorldEvidence}
 pub use Rattle.mm_worlds.specs.OneWorld.{IsSomewhere, WorldFollows}
 pub use Rattle.mm_worlds.specs.Platforms.{has_same_cell, instance_of, role_of}
 pub use Rattle.mm_worlds.specs.Premises.{AreHonest, IsWorldAtStart, calls_in, first_handed, world_messages}

@@ -1,6 +1,7 @@
-//! The law of a world over honest stores, the contract of a function that does nothing.
+//! The laws of a world over honest stores, each the contract of a function that calls what it needs.
 
 ghost use Rattle.mm_honest_worlds.specs.GoingOn.{BasicWorldGoesOn};
+ghost use Rattle.mm_honest_worlds.specs.Laws.{WorldGoesOnOrEvidence};
 
 use mm_life::parts_are_refused_elsewhere;
 
@@ -13,4 +14,12 @@ pub fn basic_world_goes_on()
     ensures { BasicWorldGoesOn }
 {
     parts_are_refused_elsewhere();
+}
+
+/// With no premise but the start, and what the stores show where the module is: it goes on so, or
+/// one holds evidence in hand, a clash of two messages, or a part that breaks something.
+pub fn world_goes_on_or_evidence()
+    ensures { WorldGoesOnOrEvidence }
+{
+    basic_world_goes_on();
 }

@@ -5,6 +5,7 @@ pub use Rattle.mm_worlds.proofs.Between.{IsGoodPaper, IsGoodTicket, IsInOrder, I
 pub use Rattle.mm_worlds.proofs.Between.{here_changed, instance_at, names_alike, same_number, there_changed}
 pub use Rattle.mm_worlds.proofs.Cells.{HoldsCell, HoldsOwn, IsAwaited, IsLiveCell, held_told, holds_still, key_held, live_role, reading_of}
 pub use Rattle.mm_worlds.proofs.Cells.{role_held}
+pub use Rattle.mm_worlds.proofs.Decided.{all_or}
 pub use Rattle.mm_worlds.proofs.Inviting.{kept_inviting}
 pub use Rattle.mm_worlds.proofs.Kept.{StandsInOrder, handed_more}
 pub use Rattle.mm_worlds.proofs.LivingParts.{IsLeftElsewhere, PartLived, kept_living, left_elsewhere}
