@@ -1,13 +1,13 @@
 -- Where the module lives; and what an acceptance that is answered gives.
 use Rattle.std.specs.List.{Contains}
-use Rattle.std.specs.Prelude.{◌||◌, not}
+use Rattle.std.specs.Prelude.{not}
 use Rattle.std.specs.Str.{bytes_eq}
-use Rattle.std.proofs.Common.{◌≡◌, ◌∙◌, ◌++◌, ℕ, Bool, true, false, List, [], ◌∷◌, Option, None, Some, Result, Ok, Err, refl, sym, ap, subst}
-use Rattle.std.proofs.Common.{inl, inr, length, arith}
+use Rattle.std.proofs.Common.{◌≡◌, ◌∙◌, ℕ, List, [], Option, None, Some, Result, Ok, Err, refl, sym, ap, subst}
+use Rattle.std.proofs.Common.{inl, inr, length}
 use Rattle.mm_digest.specs.Messages.{start_digest_of}
 use Rattle.mm_digest.specs.declared.variant.Variant.TheVariants.{Basic}
 use Rattle.mm_seal.specs.Cell.{cell_spelling}
-use Rattle.mm_seal.specs.Snapshot.{Content, sealed_snapshot_of}
+use Rattle.mm_seal.specs.Snapshot.{sealed_snapshot_of}
 use Rattle.mm_seal.specs.declared.cell.Cell.{Cell}
 use Rattle.mm_seal.specs.declared.snapshot.Place.{Place}
 use Rattle.mm_seal.specs.declared.snapshot.Place.TheVariants.{Basic as InBasic, Opt as InOpt}
@@ -20,9 +20,8 @@ use Rattle.mm_model.specs.ChainLaws.{length-summary_of, trail_front}
 use Rattle.mm_model.specs.Chains.{link_message, summary_of, trail}
 use Rattle.mm_model.specs.DigestLaws.{same_summaries}
 use Rattle.mm_model.specs.History.{History, total_of}
-use Rattle.mm_model.specs.Instance.{Instance}
 use Rattle.mm_model.specs.Messages.{AreMessagesIn, IsClear}
-use Rattle.mm_model.specs.Places.{IsPlaceOf, NamesPosition}
+use Rattle.mm_model.specs.Places.{IsPlaceOf}
 use Rattle.mm_model.specs.Standing.{IsRight, StandsFor, cell_of}
 use Rattle.mm_call.specs.CallPremises.{IsWithin}
 use Rattle.mm_call.proofs.Above.{each_at}

@@ -1,11 +1,10 @@
 -- A module that is carried from one platform to another; and a world that goes on, or gives evidence.
-use Rattle.std.proofs.Common.{◌≡◌, ◌≢◌, ◌∙◌, ◌⊎◌, ℕ, true, List, [], ◌∷◌, length, Option, Some, Result, Ok, Err, refl, sym, ap, subst, inl, inr}
+use Rattle.std.proofs.Common.{◌≡◌, ℕ, List, [], ◌∷◌, length, Ok, refl, subst, inl, inr}
 use Rattle.mm_digest.specs.declared.variant.Variant.TheVariants.{Basic}
 use Rattle.mm_platform.specs.Standing.{Standing}
 use Rattle.mm_module.specs.Meaning.{IsLawful, Meaning}
 use Rattle.mm_evidence.proofs.Above.{clash_or}
 use Rattle.mm_host.specs.Sessions.{IsSession}
-use Rattle.mm_host.specs.declared.fault.SessionFault.{SessionFault}
 use Rattle.mm_life.specs.OneStore.{KeepsStore}
 use Rattle.mm_life.specs.Stages.{Holds, PartLeads, Program, session_on}
 use Rattle.mm_move.specs.Cells.{moved_cell_of}
@@ -13,7 +12,6 @@ use Rattle.mm_move.specs.Moves.{MovePromise}
 use Rattle.mm_move.specs.Orders.{acceptance_in, invitation_in, retirement_in, waiting_for}
 use Rattle.mm_move.specs.declared.link.Link.{Link}
 use Rattle.mm_sides.specs.Roles.{Blank, Live, Retired, Role, Waiting}
-use Rattle.mm_store.specs.Slots.{Slots}
 use Rattle.mm_store.specs.StoreStanding.{StoreStanding}
 use Rattle.mm_worlds.specs.Crossing.{SiteStanding, accepted_at, both_sites, invited_at, retired_at, session_at, two_platforms}
 use Rattle.mm_worlds.specs.Platforms.{instance_of, role_of}
@@ -23,8 +21,8 @@ use Rattle.mm_worlds.proofs.Above.{all_or}
 use Rattle.mm_honest_worlds.specs.Arrivals.{EmptiesRecords, PutsArrival}
 use Rattle.mm_honest_worlds.specs.Carrying.{CarriesOver, site_over}
 use Rattle.mm_honest_worlds.specs.GoingOn.{BasicWorldGoesOn}
-use Rattle.mm_honest_worlds.specs.HostStores.{Arrived, HostStore, IsOverStores, LeaveNoChance, LeavesNoChanceAt, LeftAs, PartStartsOver}
-use Rattle.mm_honest_worlds.specs.HostStores.{StartsOver, stores_at_start}
+use Rattle.mm_honest_worlds.specs.HostStores.{Arrived, HostStore, LeavesNoChanceAt, LeftAs, PartStartsOver}
+use Rattle.mm_honest_worlds.specs.HostStores.{StartsOver}
 use Rattle.mm_honest_worlds.specs.Laws.{WorldGoesOnOrEvidence}
 use Rattle.mm_honest_worlds.specs.declared.carrying.Carried.{Carried}
 

@@ -1,8 +1,7 @@
 -- A world over honest stores goes on.
 use Rattle.std.specs.List.{AllByRecursion, Contains}
 use Rattle.std.specs.Prelude.{◌==◌, if◌then◌else◌}
-use Rattle.std.specs.Str.{bytes_eq}
-use Rattle.std.proofs.Common.{◌≡◌, ◌∙◌, ◌++◌, ℕ, Bool, true, false, List, [], ◌∷◌, Option, None, Some, Result, Ok, Err, arith, refl, sym, ap}
+use Rattle.std.proofs.Common.{◌≡◌, ◌∙◌, ℕ, Bool, true, false, List, [], ◌∷◌, Option, None, Some, Result, Ok, Err, arith, refl, sym, ap}
 use Rattle.std.proofs.Common.{subst, inl, inr, ◌⊎◌, ◌+◌, ◌-◌, ◌%◌}
 use Rattle.std.proofs.lemmas.Bool.Decides.{nat_tests}
 use Rattle.mm_digest.specs.declared.variant.Variant.TheVariants.{Basic}
@@ -29,7 +28,7 @@ use Rattle.mm_store.specs.Slots.{Slots, slot_front}
 use Rattle.mm_store.specs.StoreStanding.{StoreStanding}
 use Rattle.mm_life.specs.DeedHistory.{IsNoCall}
 use Rattle.mm_life.specs.Deeds.{Calls, Checkpoints, Deed, DeedLeads, Extends, LosesPower}
-use Rattle.mm_life.specs.HonestLife.{BeginsOver, LeavesNoChance, store_behind}
+use Rattle.mm_life.specs.HonestLife.{BeginsOver, LeavesNoChance}
 use Rattle.mm_life.specs.PartsElsewhere.{PartsAreRefusedElsewhere}
 use Rattle.mm_life.specs.Premises.{call_batches}
 use Rattle.mm_life.specs.Stages.{Does, Holds, LifePart, PartLeads, Program, part_calls}
@@ -38,14 +37,14 @@ use Rattle.mm_sides.specs.Roles.{Blank, Live, Retired, Role, Waiting}
 use Rattle.mm_worlds.specs.Handed.{Handed}
 use Rattle.mm_worlds.specs.OneWorld.{WorldFollows, WorldPartSteps}
 use Rattle.mm_worlds.specs.Platforms.{cell_bytes, has_same_cell, instance_of, key_of, role_in, role_of}
-use Rattle.mm_worlds.specs.Premises.{AreHonest, IsHonest, IsWorldAtStart, asked_messages, calls_at, calls_in, first_handed, handed_after}
+use Rattle.mm_worlds.specs.Premises.{AreHonest, IsHonest, asked_messages, calls_at, calls_in, first_handed, handed_after}
 use Rattle.mm_worlds.specs.Premises.{handed_at_end, messages_from, world_messages}
 use Rattle.mm_worlds.specs.Worlds.{Accepts, Invites, IsWorldLife, Lives, Retires, World, WorldPart, WorldPartLeads, WorldStage, world_after}
 use Rattle.mm_worlds.specs.Worlds.{world_at_end}
 use Rattle.mm_worlds.proofs.Above.{HoldsCell, IsLiveCell, StandsInOrder, changed_at, held_told, here_changed, instance_at, kept_accepting}
 use Rattle.mm_worlds.proofs.Above.{kept_inviting, kept_living, kept_retiring, left_elsewhere, offered_genuine, reading_of, role_held, same_number}
 use Rattle.mm_worlds.proofs.Above.{somewhere, starts}
-use Rattle.mm_honest_worlds.specs.GoingOn.{BasicWorldGoesOn, GoesOnIfLive, KeepsFitting, StoreFits, WorldGoesOnFrom, WorldPartGoesOn}
+use Rattle.mm_honest_worlds.specs.GoingOn.{BasicWorldGoesOn, GoesOnIfLive, StoreFits, WorldGoesOnFrom, WorldPartGoesOn}
 use Rattle.mm_honest_worlds.specs.GoingOn.{asked_batches}
 use Rattle.mm_honest_worlds.specs.HostStores.{Arrived, HostStore, HostStores, IsOverStore, IsOverStores, LeaveNoChance, LeavesNoChanceAt}
 use Rattle.mm_honest_worlds.specs.HostStores.{IsNextAfter, LeavesNoneByChance, LeftAs, PartStartsOver, StartsOver, Unknown, known_unless_moved}

@@ -1,17 +1,13 @@
 -- A cell stands for the batches of one history alone; and what fits a history fits each of the same batches.
-use Rattle.std.specs.List.{Contains}
-use Rattle.std.proofs.Common.{◌≡◌, ◌∙◌, ◌++◌, ℕ, List, [], ◌∷◌, Option, None, Some, Result, Ok, Err, refl, sym, ap, subst}
-use Rattle.mm_digest.specs.Messages.{start_message}
+use Rattle.std.proofs.Common.{◌≡◌, ◌∙◌, ℕ, List, Option, Some, Ok, sym, ap}
 use Rattle.mm_digest.specs.declared.variant.Variant.TheVariants.{Basic}
 use Rattle.mm_seal.specs.Snapshot.{Content}
 use Rattle.mm_seal.specs.declared.cell.Cell.{Cell}
-use Rattle.mm_seal.specs.declared.cell.CellFault.{CellFault}
 use Rattle.mm_seal.specs.declared.snapshot.Place.{Place}
 use Rattle.mm_seal.specs.declared.snapshot.Place.TheVariants.{Basic as InBasic, Opt as InOpt}
 use Rattle.mm_platform.specs.Standing.{Standing}
 use Rattle.mm_module.specs.Batch.{Batch}
 use Rattle.mm_module.specs.Meaning.{Meaning}
-use Rattle.mm_model.specs.Chains.{summary_of}
 use Rattle.mm_model.specs.DigestLaws.{same_summaries}
 use Rattle.mm_model.specs.History.{History, total_of}
 use Rattle.mm_model.specs.Instance.{Instance}
@@ -21,14 +17,12 @@ use Rattle.mm_model.specs.Places.{IsPlaceOf, NamesPosition}
 use Rattle.mm_model.specs.Standing.{StandsFor, cell_of}
 use Rattle.mm_call.specs.CallPremises.{IsWithin}
 use Rattle.mm_move.specs.Cells.{moved_cell_of, moved_spelling}
-use Rattle.mm_move.specs.declared.cell.MovedCell.{MovedCell}
 use Rattle.mm_move.specs.declared.cell.MovedCell.TheVariants as moved
 use Rattle.mm_move.proofs.Above.{moved_back}
 use Rattle.mm_store.specs.Slots.{Slots}
-use Rattle.mm_store.specs.PendingRecord.{PendingRecord}
 use Rattle.mm_recovery.specs.SlotFit.{FitsHistory, IsSnapshotAt}
 use Rattle.mm_recovery.proofs.Above.{fits_on}
-use Rattle.mm_honest_worlds.specs.GoingOn.{KeepsFitting, StoreFits}
+use Rattle.mm_honest_worlds.specs.GoingOn.{StoreFits}
 use Rattle.mm_honest_worlds.specs.HostStores.{Arrived, HostStore, LeftAs, Unknown}
 
 module _ (meaning : Meaning) (key : List ℕ) where

@@ -1,6 +1,6 @@
 -- What a host puts into its store when a module arrives.
 use Rattle.std.specs.Prelude.{IfOk, ◌<◌}
-use Rattle.std.proofs.Common.{◌≡◌, ◌∙◌, ◌≤◌, ◌+◌, ◌%◌, ◌⊎◌, ℕ, List, [], Option, None, Some, Result, Ok, Err, arith, refl, sym, ap, subst}
+use Rattle.std.proofs.Common.{◌≡◌, ◌∙◌, ◌≤◌, ◌+◌, ◌%◌, ◌⊎◌, ℕ, List, [], Option, None, Some, Result, Ok, Err, arith, refl, ap}
 use Rattle.std.proofs.Common.{inl, inr, length, take}
 use Rattle.std.proofs.Math.Seq.{take-nil}
 use Rattle.std.proofs.lemmas.List.{take_all}
@@ -8,14 +8,13 @@ use Rattle.mm_base.specs.Lines.{IsLineFront}
 use Rattle.mm_bytes.specs.Limits.{last_position, longest_request}
 use Rattle.mm_move.specs.declared.accepting.Accepted.{Accepted}
 use Rattle.mm_store.specs.Calls.{WritesSlot, slots_with_bytes}
-use Rattle.mm_store.specs.PendingRecord.{IsPending, PendingRecord, ReadsPendingRecord, pending_spelling}
-use Rattle.mm_store.specs.Slots.{Slots, longest_slot, slot_front, slots_with}
+use Rattle.mm_store.specs.PendingRecord.{PendingRecord, ReadsPendingRecord, pending_spelling}
+use Rattle.mm_store.specs.Slots.{Slots, longest_slot, slots_with}
 use Rattle.mm_store.specs.StoreStanding.{StoreStanding}
 use Rattle.mm_store.specs.declared.fault.StoreFault.{StoreFault}
-use Rattle.mm_store.specs.declared.store.TheConstants.{LONGEST_SLOT}
 use Rattle.mm_store.proofs.Above.{longest_slot-is, reads_none-short}
 use Rattle.mm_recovery.proofs.Above.{length-pending_spelling}
-use Rattle.mm_honest_worlds.specs.Arrivals.{HasNoRecords, PutsArrival}
+use Rattle.mm_honest_worlds.specs.Arrivals.{PutsArrival}
 use Rattle.mm_honest_worlds.specs.HostStores.{HasArrived}
 
 pub record_short : (p : PendingRecord) (bytes : List ℕ) → bytes ≡ pending_spelling p → length p.request ≤ longest_request

@@ -1,5 +1,5 @@
 -- What a host writes into the store of the platform that a module comes to.
-use Rattle.std.specs.Prelude.{◌≡◌, ℕ, true, List, [], Some}
+use Rattle.std.specs.Prelude.{◌≡◌, true, [], Some}
 use Rattle.mm_honest_worlds.specs.Below.{Accepted, Slots, StoreStanding}
 use Rattle.mm_honest_worlds.specs.HostStores.{ShowsArrival}
 

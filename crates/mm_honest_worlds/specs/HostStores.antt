@@ -1,6 +1,6 @@
 -- A world over honest stores: on the platform where the module is each program starts over what the
 -- one before it left there, or over what the host put there when the module arrived.
-use Rattle.std.specs.Prelude.{◌≡◌, ◌+◌, ◌%◌, ◌==◌, ℕ, true, List, [], ◌∷◌, Option, None, Some, Result, Ok, Err, if◌then◌else◌}
+use Rattle.std.specs.Prelude.{◌≡◌, ◌+◌, ◌%◌, ◌==◌, ℕ, true, List, [], ◌∷◌, Option, None, Some, Ok, if◌then◌else◌}
 use Rattle.mm_honest_worlds.specs.Below.{Variant, Standing, Meaning, Accepted, Link, Live, Role, PendingRecord, Slots, slot_front}
 use Rattle.mm_honest_worlds.specs.Below.{StoreStanding, IsWaiting, Calls, LeavesNoChance, Does, Holds, LifePart, PartLeads, has_same_cell, role_of}
 use Rattle.mm_honest_worlds.specs.Below.{Accepts, IsWorldLife, Lives, World, WorldPart, WorldPartLeads, WorldStage, world_after}

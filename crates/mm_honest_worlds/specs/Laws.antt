@@ -1,5 +1,5 @@
 -- A world over honest stores goes on, or one holds evidence in hand.
-use Rattle.std.specs.Prelude.{◌≡◌, ◌⊎◌, ℕ, true, List, Some}
+use Rattle.std.specs.Prelude.{◌≡◌, ◌⊎◌, true, List, Some}
 use Rattle.mm_honest_worlds.specs.Below.{Basic, IsLawful, Meaning, Link, StoreStanding, first_slots, instance_of, IsWorldAtStart, first_handed}
 use Rattle.mm_honest_worlds.specs.Below.{HasWorldEvidence, world_messages, IsWorldLife, World, WorldStage}
 use Rattle.mm_honest_worlds.specs.GoingOn.{IsWorldGoneOn, asked_batches}
