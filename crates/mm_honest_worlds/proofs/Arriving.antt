@@ -143,7 +143,8 @@ module _ (meaning : Meaning) (link : Link) (all : List (List ℕ)) (asked : List
   given key same content right summary accepted is =
       let n = names_alike meaning link.key key y content.content (good content right).names in
       let front = trail_front link_message (start_digest_of Basic meaning.id) n.named n.rest all
-      (subst (λ (bs : List Batch). AreMessagesIn (trail link_message (start_digest_of Basic meaning.id) bs) all) n.first s.within.listed.1) in
+      (subst (λ (bs : List Batch). AreMessagesIn (trail link_message (start_digest_of Basic meaning.id) bs) all) n.first
+      s.within.listed.1) in
       let batches : n.named ≡ y.batches =
       same_summaries meaning.id all clear s.within.listed.0 n.named y.batches front s.within.listed.1
       (sym (place_summary meaning link key y n.named content.content.place n.place) ∙ summary) in
@@ -198,7 +199,8 @@ module _ (meaning : Meaning) (link : Link) (all : List (List ℕ)) (asked : List
       sym e ∙ ap s.cells (o.placed.only at live) ∙ o.placed.here in
       let cell : c ≡ cell_of (instance_at meaning link o.placed.key) y = cc in
       let held : HoldsOwn meaning.id new (moved.Live c) = record { formed = h.formed; own = h.own; told = same ∙ h.told } in
-      given c.key (key_held meaning.id new (moved.Live c) held) content right (summary ∙ ap (λ (x : Cell). x.summary.bytes) cell) accepted is
+      given c.key (key_held meaning.id new (moved.Live c) held) content right
+      (summary ∙ ap (λ (x : Cell). x.summary.bytes) cell) accepted is
 
   answer_of : (result : Result Accepted MoveRefusal) (answer accepted : Accepted) → result ≡ Ok answer → result ≡ Ok accepted
       → accepted ≡ answer

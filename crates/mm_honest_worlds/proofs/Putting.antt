@@ -47,7 +47,8 @@ module _ (accepted : Accepted) (request bytes : List ℕ) (room : accepted.posit
   )
 
   arrived : (slots : Slots) → slots.two ≡ [] → slots.three ≡ []
-      → HasArrived accepted (slots_with (slots_with slots (accepted.position % 2) accepted.snapshot) (2 + (accepted.position + 1) % 2) bytes)
+      → HasArrived accepted (slots_with (slots_with slots (accepted.position % 2) accepted.snapshot)
+      (2 + (accepted.position + 1) % 2) bytes)
   arrived slots two three = elim (parity accepted.position) [
     | inl even ↦ rw (even.0, even.1) (record {
       snapshot = rw even.0 (shown accepted.snapshot short);

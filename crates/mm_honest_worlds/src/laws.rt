@@ -1,4 +1,5 @@
-//! The laws of a world over honest stores, each the contract of a function that calls what it needs.
+//! The laws of a world over honest stores, each the contract of a function that calls what it
+//! needs.
 
 ghost use Rattle.mm_honest_worlds.specs.GoingOn.{BasicWorldGoesOn};
 ghost use Rattle.mm_honest_worlds.specs.Laws.{WorldGoesOnOrEvidence};

@@ -72,8 +72,8 @@ module _ (meaning : Meaning) (link : Link) (ticket : List ℕ) where
         next_is = sym (ap (λ (r : ReadyMove Accepted). r.next) same);
       }
 
-  pub enters_ready : (c : WaitingCell) (ready : ReadyMove Accepted) → acceptance_in meaning Basic link ticket (Ok (moved.Waiting c)) ≡ Ok ready
-      → Enters c ready
+  pub enters_ready : (c : WaitingCell) (ready : ReadyMove Accepted)
+      → acceptance_in meaning Basic link ticket (Ok (moved.Waiting c)) ≡ Ok ready → Enters c ready
   enters_ready c ready e =
       let own = passes (is_other Basic meaning.id c.variant c.module) _ _ ready e in
       enters_by c ready (right_ticket meaning Basic link.key ticket) refl own.1
