@@ -1,6 +1,7 @@
 -- What crates above may cite of these proofs: the other files can be read and changed by this crate alone.
 pub use Rattle.mm_life.proofs.BasicLife.{basic_life, first_genuine, first_within}
 pub use Rattle.mm_life.proofs.Chains.{Ends, rests, session_chain, stops}
+pub use Rattle.mm_life.proofs.HonestLife.{PartGone, part_goes}
 pub use Rattle.mm_life.proofs.Living.{LifeLaws, part_lives}
 pub use Rattle.mm_life.proofs.OneCall.{AreListed}
 pub use Rattle.mm_life.proofs.Sessions.{IsFirstGenuine}

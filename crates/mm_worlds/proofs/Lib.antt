@@ -19,3 +19,4 @@ mod Crossings
 mod OptWorld
 mod Journeys
 mod Moving
+pub mod Above
