@@ -41,15 +41,16 @@ use Rattle.mm_worlds.specs.Premises.{AreHonest, IsHonest, asked_messages, calls_
 use Rattle.mm_worlds.specs.Premises.{handed_at_end, messages_from, world_messages}
 use Rattle.mm_worlds.specs.Worlds.{Accepts, Invites, IsWorldLife, Lives, Retires, World, WorldPart, WorldPartLeads, WorldStage, world_after}
 use Rattle.mm_worlds.specs.Worlds.{world_at_end}
-use Rattle.mm_worlds.proofs.Above.{HoldsCell, IsLiveCell, StandsInOrder, changed_at, held_told, here_changed, instance_at, kept_accepting}
-use Rattle.mm_worlds.proofs.Above.{kept_inviting, kept_living, kept_retiring, left_elsewhere, offered_genuine, reading_of, role_held, same_number}
-use Rattle.mm_worlds.proofs.Above.{somewhere, starts}
+use Rattle.mm_worlds.proofs.Above.{HoldsCell, IsLiveCell, StandsInOrder, WorldLaws, basic_laws, changed_at, held_told}
+use Rattle.mm_worlds.proofs.Above.{here_changed, instance_at, left_elsewhere, reading_of, role_held, same_number, somewhere, starts}
+use Rattle.mm_worlds.proofs.Above.{stepped as world_stepped}
+use Rattle.mm_worlds.proofs.Above.{there_changed, within_key}
 use Rattle.mm_honest_worlds.specs.GoingOn.{BasicWorldGoesOn, GoesOnIfLive, StoreFits, WorldGoesOnFrom, WorldPartGoesOn}
 use Rattle.mm_honest_worlds.specs.GoingOn.{asked_batches}
 use Rattle.mm_honest_worlds.specs.HostStores.{Arrived, HostStore, HostStores, IsOverStore, IsOverStores, LeaveNoChance, LeavesNoChanceAt}
 use Rattle.mm_honest_worlds.specs.HostStores.{IsNextAfter, LeavesNoneByChance, LeftAs, PartStartsOver, StartsOver, Unknown, known_unless_moved}
 use Rattle.mm_honest_worlds.specs.HostStores.{store_behind_part, stores_after, stores_at_end, stores_at_start}
-use Rattle.mm_honest_worlds.proofs.Arriving.{IsHere, accepted_gives, held_by, is_here, within_alike}
+use Rattle.mm_honest_worlds.proofs.Arriving.{IsHere, accepted_gives, held_by, is_here, stands_still}
 use Rattle.mm_honest_worlds.proofs.OneHistory.{one_history, slots_on, store_on}
 
 -- two numbers that a test tells apart
@@ -103,7 +104,10 @@ same_told old new a b e f same =
 module _ (meaning : Meaning) (lawful : IsLawful meaning) (link : Link) (all : List (List ℕ)) (asked : List Batch)
     (clear : IsClear all) (refuses : PartsAreRefusedElsewhere) where
   abbrev Stands : World → History → Handed → Type 0
-  Stands world y handed = StandsInOrder meaning link all asked world y handed
+  Stands world y handed = StandsInOrder Basic meaning link all [] asked world y handed
+
+  abbrev laws : WorldLaws Basic meaning link all [] asked (λ old part new. Unit {0}) (λ old calls. ⊥)
+  laws = basic_laws meaning lawful link all asked clear refuses
 
   abbrev AllFit : World → History → HostStores → Type 0
   AllFit world y stores = (at : ℕ) → Fits meaning link (world at) y (stores at)
@@ -138,15 +142,15 @@ module _ (meaning : Meaning) (lawful : IsLawful meaning) (link : Link) (all : Li
         → StandsFor here new w → IsWithin all [] asked here w → StandsFor here new z × (z.batches ≡ w.batches)
     same_history new z w given t v within =
         let held = held_by meaning link (key_of old) new w v in
-        let there : IsHere meaning link all asked (changed_at world at new) z at =
-        is_here meaning link all asked (changed_at world at new) z given t at
+        let there : IsHere meaning lawful link all asked clear refuses (changed_at world at new) z at =
+        is_here meaning lawful link all asked clear refuses (changed_at world at new) z given t at
         (ap role_of (here_changed world at new) ∙ held.0) in
         let stands : StandsFor here new z =
-        subst (λ (k : List ℕ). StandsFor (instance_at meaning link k) new z) held.1
-        (subst (λ (x : Standing). StandsFor (instance_at meaning link (key_of x)) x z) (here_changed world at new) there.stands) in (
+        subst (λ (k : List ℕ). StandsFor (instance_at Basic meaning link k) new z) held.1
+        (subst (λ (x : Standing). StandsFor (instance_at Basic meaning link (key_of x)) x z) (here_changed world at new) there.stands) in (
           stands,
           one_history meaning (key_of old) all [] asked clear new z w stands v
-              (within_alike meaning link all asked link.key (key_of old) z t.within) within,
+              (within_key Basic meaning link link.key (key_of old) all [] asked z t.within) within,
         )
 
     -- what a session begins with, where the module is
@@ -191,7 +195,7 @@ module _ (meaning : Meaning) (lawful : IsLawful meaning) (link : Link) (all : Li
     }
 
     module _ (new : Standing) (z : History) (given : Handed) (t : Stands (changed_at world at new) z given)
-        (h : IsHere meaning link all asked world y at) (role : role_of old ≡ Live) where
+        (h : IsHere meaning lawful link all asked clear refuses world y at) (role : role_of old ≡ Live) where
       lived_session : (p : Program) (f : PartLeads Basic meaning old (Holds p) new) → Begun p
           → LeavesNoChance Basic meaning old (Holds p) new f → AreListed all asked here (part_calls Basic meaning old (Holds p) new f)
           → LivedOn (Holds p) new f z
@@ -236,8 +240,8 @@ module _ (meaning : Meaning) (lawful : IsLawful meaning) (link : Link) (all : Li
           → IsHonest Basic meaning link handed old (Lives part) new f
           → AreListed all asked here (calls_in Basic meaning link old (Lives part) new f) → Stepped (Lives part) new f
       stepped_here role over chance honest listed =
-          let l = kept_living meaning lawful link all asked clear refuses world y handed s at part new f honest.offers listed in
-          let h = is_here meaning link all asked world y handed s at role in
+          let l = world_stepped meaning lawful link all asked clear refuses world y handed s at (Lives part) new f honest listed in
+          let h = is_here meaning lawful link all asked clear refuses world y handed s at role in
           let on = lived_on new l.after (handed_after Basic meaning link handed old (Lives part) new f) l.stands h role part f
           (subst (λ (r : Role). PartStartsOver r store part) role over)
           (subst (λ (r : Role). LeavesNoChanceAt r Basic meaning old part new f) role chance)
@@ -250,7 +254,7 @@ module _ (meaning : Meaning) (lawful : IsLawful meaning) (link : Link) (all : Li
             goes = subst (λ (r : Role). GoesOnIfLive all asked meaning link r old part new f (requests_of y.batches)
                 (requests_of l.after.batches)) (sym role) on.goes;
             fits_then = fits_changed meaning link world stores at new (store_behind_part store old (Lives part) new) l.after
-                (λ live. subst (λ (k : List ℕ). StoreFits (instance_at meaning link k) l.after
+                (λ live. subst (λ (k : List ℕ). StoreFits (instance_at Basic meaning link k) l.after
                 (store_behind_part store old (Lives part) new)) (sym held.1) on.left)
                 (λ other differs live. absurd (differs (h.only other live)));
           }
@@ -264,8 +268,8 @@ module _ (meaning : Meaning) (lawful : IsLawful meaning) (link : Link) (all : Li
 
       stepped_elsewhere : (role_of old ≡ Live → ⊥) → Stepped (Lives part) new f
       stepped_elsewhere away =
-          let x = left_elsewhere meaning lawful link all asked clear refuses world y handed s at part new f (s.cells at) (s.order.holds at)
-          (λ live. away (role_held meaning.id old (s.cells at) (s.order.holds at) ∙ live_in (s.cells at) live)) in
+          let x = left_elsewhere laws world y handed s at new part f (s.cells at) refl (s.order.holds at)
+          (λ live. away (role_held Basic meaning link old (s.cells at) (s.order.holds at) ∙ live_in (s.cells at) live)) in
           let same : role_of new ≡ role_of old = ap (λ (cell : Option (List ℕ)). role_of (record old { cell = cell })) x.cell in
           record {
             after = y;
@@ -276,34 +280,58 @@ module _ (meaning : Meaning) (lawful : IsLawful meaning) (link : Link) (all : Li
                 (λ live. absurd (away (sym same ∙ live))) (λ other differs live. fits other live);
           }
 
-    -- what is known behind a move that was not an acceptance's answer
-    fits_moved : (new : Standing) (given : Handed) → Stands (changed_at world at new) y given
-        → Fits meaning link new y (known_unless_moved store old new)
-    fits_moved new given t = by_cell (has_same_cell old new) refl
-      where
-        held : HoldsCell meaning.id new (t.cells at)
-        held = subst (λ (x : Standing). HoldsCell meaning.id x (t.cells at)) (here_changed world at new) (t.order.holds at)
+    -- A move leads to the same list: what stands for the history before it and behind it, stands for the same batches.
+    module _ (new : Standing) (z : History) (given : Handed) (t : Stands (changed_at world at new) z given) where
+      fits_behind : (other : ℕ) (standing : Standing) → changed_at world at new other ≡ standing → role_of standing ≡ Live
+          → StandsFor (instance_at Basic meaning link (key_of standing)) standing y → (known : HostStore)
+          → StoreFits (instance_of Basic meaning link standing) y known → StoreFits (instance_of Basic meaning link standing) z known
+      fits_behind other standing e role before known f =
+          let there : IsHere meaning lawful link all asked clear refuses (changed_at world at new) z other =
+          is_here meaning lawful link all asked clear refuses (changed_at world at new) z given t other (ap role_of e ∙ role) in
+          let behind : StandsFor (instance_at Basic meaning link (key_of standing)) standing z =
+          subst (λ (x : Standing). StandsFor (instance_at Basic meaning link (key_of x)) x z) e there.stands in
+          store_on meaning (key_of standing) y z (one_history meaning (key_of standing) all [] asked clear standing z y behind before
+          (within_key Basic meaning link link.key (key_of standing) all [] asked z t.within)
+          (within_key Basic meaning link link.key (key_of standing) all [] asked y s.within)) known f
 
-        by_cell : (same : Bool) → has_same_cell old new ≡ same → Fits meaning link new y (if same then store else Unknown)
-        by_cell true e =
-            fits_same meaning link old new y store (same_told old new _ _ (held_told meaning.id old (s.cells at) (s.order.holds at))
-            (held_told meaning.id new (t.cells at) held) e) (fits at)
-        by_cell false e = λ live. tt
+      -- what is known behind a move that was not an acceptance's answer
+      fits_moved : Fits meaning link new z (known_unless_moved store old new)
+      fits_moved = by_cell (has_same_cell old new) refl
+        where
+          held : HoldsCell Basic meaning link new (t.cells at)
+          held = subst (λ (x : Standing). HoldsCell Basic meaning link x (t.cells at)) (here_changed world at new) (t.order.holds at)
 
-    -- a move leaves the list
-    moved_by : (new : Standing) (known : HostStore) → Fits meaning link new y known
-        → AllFit (changed_at world at new) y (changed_at stores at known)
-    moved_by new known f = fits_changed meaning link world stores at new known y f (λ other differs live. fits other live)
+          by_cell : (same : Bool) → has_same_cell old new ≡ same → Fits meaning link new z (if same then store else Unknown)
+          by_cell true e = λ live.
+              let same : new.cell ≡ old.cell =
+              same_told old new _ _ (held_told Basic meaning link old (s.cells at) (s.order.holds at))
+              (held_told Basic meaning link new (t.cells at) held) e in
+              let lived : role_of old ≡ Live =
+              ap (λ (cell : Option (List ℕ)). role_of (record old { cell = cell })) (sym same) ∙ live in
+              let h = is_here meaning lawful link all asked clear refuses world y handed s at lived in
+              fits_behind at new (here_changed world at new) live (stands_still meaning link old new y same h.stands) store
+              (fits_same meaning link old new y store same (fits at) live)
+          by_cell false e = λ live. tt
 
-    accepted_by : (new : Standing) (ticket : List ℕ) (result : Result Accepted MoveRefusal)
+      -- what is known of each platform then
+      moved_by : (known : HostStore) → Fits meaning link new z known
+          → AllFit (changed_at world at new) z (changed_at stores at known)
+      moved_by known f = fits_changed meaning link world stores at new known z f (λ other differs live.
+          let h = is_here meaning lawful link all asked clear refuses world y handed s other live in
+          fits_behind other (world other) (there_changed world at new other differs) live h.stands (stores other) (fits other live))
+
+    accepted_by : (new : Standing) (z : History) (ticket : List ℕ) (result : Result Accepted MoveRefusal)
         (f : WorldPartLeads Basic meaning link old (Accepts ticket result) new) → IsHonest Basic meaning link handed old
         (Accepts ticket result) new f
-        → Stands (changed_at world at new) y (handed_after Basic meaning link handed old (Accepts ticket result) new f)
-        → Fits meaning link new y (store_behind_part store old (Accepts ticket result) new)
-    accepted_by new ticket (Ok accepted) f honest t =
-        λ live. accepted_gives meaning link all asked clear world y handed s at ticket new honest.tickets.0 (Ok accepted) accepted refl f
-    accepted_by new ticket (Err why) f honest t =
-        fits_moved new (handed_after Basic meaning link handed old (Accepts ticket (Err why)) new f) t
+        → Stands (changed_at world at new) z (handed_after Basic meaning link handed old (Accepts ticket result) new f)
+        → Fits meaning link new z (store_behind_part store old (Accepts ticket result) new)
+    accepted_by new z ticket (Ok accepted) f honest t = λ live.
+        let g = accepted_gives meaning lawful link all asked clear refuses world y handed s at ticket new honest.tickets.0 (Ok accepted)
+        accepted refl f in
+        fits_behind new z (handed_after Basic meaning link handed old (Accepts ticket (Ok accepted)) new f) t at new
+        (here_changed world at new) live g.stands (Arrived accepted) (g.snapshot, g.position)
+    accepted_by new z ticket (Err why) f honest t =
+        fits_moved new z (handed_after Basic meaning link handed old (Accepts ticket (Err why)) new f) t
 
     stepped : (part : WorldPart) (new : Standing) (f : WorldPartLeads Basic meaning link old part new)
         → IsOverStore store old part → LeavesNoneByChance Basic meaning link old part new f
@@ -314,36 +342,37 @@ module _ (meaning : Meaning) (lawful : IsLawful meaning) (link : Link) (all : Li
       | inr away ↦ stepped_elsewhere part new f away
     ]
     stepped (Invites nonce key result) new f over chance honest listed =
-        let t = kept_inviting meaning link all asked world y handed s at nonce key new result f.0 f.1 f.2 honest.nonces in
+        let g = world_stepped meaning lawful link all asked clear refuses world y handed s at (Invites nonce key result) new f honest
+        listed in
+        let given = handed_after Basic meaning link handed old (Invites nonce key result) new f in
         record {
-          after = y;
-          stands = t;
-          steps = refl;
-          goes = refl;
-          fits_then = moved_by new (known_unless_moved store old new)
-              (fits_moved new (handed_after Basic meaning link handed old (Invites nonce key result) new f) t);
+          after = g.after;
+          stands = g.stands;
+          steps = g.steps;
+          goes = g.steps;
+          fits_then = moved_by new g.after given g.stands (known_unless_moved store old new) (fits_moved new g.after given g.stands);
         }
     stepped (Retires nonce offer result) new f over chance honest listed =
-        let t = kept_retiring meaning link all asked world y handed s at nonce offer new f.0 result
-        (offered_genuine meaning lawful link all asked clear refuses world y handed s at offer (s.cells at) (s.order.holds at)
-        honest.offers) f.1 in
+        let g = world_stepped meaning lawful link all asked clear refuses world y handed s at (Retires nonce offer result) new f honest
+        listed in
+        let given = handed_after Basic meaning link handed old (Retires nonce offer result) new f in
         record {
-          after = y;
-          stands = t;
-          steps = refl;
-          goes = refl;
-          fits_then = moved_by new (known_unless_moved store old new)
-              (fits_moved new (handed_after Basic meaning link handed old (Retires nonce offer result) new f) t);
+          after = g.after;
+          stands = g.stands;
+          steps = g.steps;
+          goes = g.steps;
+          fits_then = moved_by new g.after given g.stands (known_unless_moved store old new) (fits_moved new g.after given g.stands);
         }
     stepped (Accepts ticket result) new f over chance honest listed =
-        let t = kept_accepting meaning link all asked world y handed s at ticket new honest.tickets.0 result f in
+        let g = world_stepped meaning lawful link all asked clear refuses world y handed s at (Accepts ticket result) new f honest
+        listed in
         record {
-          after = y;
-          stands = t;
-          steps = refl;
-          goes = refl;
-          fits_then = moved_by new (store_behind_part store old (Accepts ticket result) new)
-              (accepted_by new ticket result f honest t);
+          after = g.after;
+          stands = g.stands;
+          steps = g.steps;
+          goes = g.steps;
+          fits_then = moved_by new g.after (handed_after Basic meaning link handed old (Accepts ticket result) new f) g.stands
+              (store_behind_part store old (Accepts ticket result) new) (accepted_by new g.after ticket result f honest g.stands);
         }
 
   -- all stages, one after another
@@ -414,7 +443,7 @@ basic_goes_on refuses meaning lawful link world kept stages f start honest told 
       follows = g.follows;
       history = g.after;
       holds = refl;
-      somewhere = somewhere meaning lawful link all asked clear refuses (world_at_end world stages) g.after
-          (handed_at_end Basic meaning link handed world stages f) g.stands g.stands.going g.stands.order;
+      somewhere = somewhere (basic_laws meaning lawful link all asked clear refuses) (world_at_end world stages) g.after
+          (handed_at_end Basic meaning link handed world stages f) g.stands;
       fits = g.fits;
     }

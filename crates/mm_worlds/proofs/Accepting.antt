@@ -53,15 +53,15 @@ neither false b e = (refl, e)
 
 module _ (variant : Variant) (meaning : Meaning) (link : Link) (ticket : List ℕ) where
   -- what an acceptance is ready with: it answers with what a right ticket says
-  record Answers (key : List ℕ) (ready : ReadyMove Accepted) : Type 0 where
-    content : TicketContent
-    right : right_ticket meaning variant link.key ticket ≡ Ok content
-    answer_is : ready.answer ≡ acceptance_of key content.content
+  pub record Answers (key : List ℕ) (ready : ReadyMove Accepted) : Type 0 where
+    pub content : TicketContent
+    pub right : right_ticket meaning variant link.key ticket ≡ Ok content
+    pub answer_is : ready.answer ≡ acceptance_of key content.content
 
-  record Enters (c : WaitingCell) (ready : ReadyMove Accepted) : Type 0 where
-    answers : Answers c.key ready
-    nonce : answers.content.nonce ≡ c.nonce
-    next_is : ready.next ≡ Some (cell_spelling (live_cell_from c answers.content.content))
+  pub record Enters (c : WaitingCell) (ready : ReadyMove Accepted) : Type 0 where
+    pub answers : Answers c.key ready
+    pub nonce : answers.content.nonce ≡ c.nonce
+    pub next_is : ready.next ≡ Some (cell_spelling (live_cell_from c answers.content.content))
 
   enters_by : (c : WaitingCell) (ready : ReadyMove Accepted) (read : Result TicketContent MoveRefusal)
       → right_ticket meaning variant link.key ticket ≡ read → acceptance_by c read ≡ Ok ready → Enters c ready
@@ -76,7 +76,7 @@ module _ (variant : Variant) (meaning : Meaning) (link : Link) (ticket : List �
         next_is = sym (ap (λ (r : ReadyMove Accepted). r.next) same);
       }
 
-  enters_ready : (c : WaitingCell) (ready : ReadyMove Accepted)
+  pub enters_ready : (c : WaitingCell) (ready : ReadyMove Accepted)
       → acceptance_in meaning variant link ticket (Ok (moved.Waiting c)) ≡ Ok ready
       → Enters c ready
   enters_ready c ready e =
@@ -85,11 +85,11 @@ module _ (variant : Variant) (meaning : Meaning) (link : Link) (ticket : List �
       enters_by c ready (right_ticket meaning variant link.key ticket) refl barred.1
 
   -- it entered before, and the module is where the ticket says
-  record Again (c : Cell) (ready : ReadyMove Accepted) : Type 0 where
-    answers : Answers c.key ready
-    shut : c.flag ≡ false
-    summary : (summary_in answers.content.content.place).bytes ≡ c.summary.bytes
-    next_is : ready.next ≡ None
+  pub record Again (c : Cell) (ready : ReadyMove Accepted) : Type 0 where
+    pub answers : Answers c.key ready
+    pub shut : c.flag ≡ false
+    pub summary : (summary_in answers.content.content.place).bytes ≡ c.summary.bytes
+    pub next_is : ready.next ≡ None
 
   again_by : (c : Cell) (ready : ReadyMove Accepted) (read : Result TicketContent MoveRefusal)
       → right_ticket meaning variant link.key ticket ≡ read → acceptance_again_by c read ≡ Ok ready → Again c ready
@@ -106,7 +106,7 @@ module _ (variant : Variant) (meaning : Meaning) (link : Link) (ticket : List �
         next_is = sym (ap (λ (r : ReadyMove Accepted). r.next) same);
       }
 
-  again_ready : (c : Cell) (ready : ReadyMove Accepted) → acceptance_in meaning variant link ticket (Ok (moved.Live c)) ≡ Ok ready
+  pub again_ready : (c : Cell) (ready : ReadyMove Accepted) → acceptance_in meaning variant link ticket (Ok (moved.Live c)) ≡ Ok ready
       → Again c ready
   again_ready c ready e =
       let own = passes (is_other variant meaning.id c.variant c.module) _ _ ready e in
@@ -114,7 +114,7 @@ module _ (variant : Variant) (meaning : Meaning) (link : Link) (ticket : List �
       again_by c ready (right_ticket meaning variant link.key ticket) refl barred.1
 
 -- the cell of one that enters stands for the history
-entered_cell : (variant : Variant) (meaning : Meaning) (link : Link) (y : History) (items : List RegisterEntry) (c : WaitingCell)
+pub entered_cell : (variant : Variant) (meaning : Meaning) (link : Link) (y : History) (items : List RegisterEntry) (c : WaitingCell)
     (content : Content) → IsOwnCell variant meaning link (moved.Waiting c) → y.is_open ≡ false
     → (summary_in content.place).bytes ≡ anchor_at variant meaning link y
     → live_cell_from c content ≡ cell_of (instance_at variant meaning link c.key) (record y { items = items })
@@ -150,13 +150,13 @@ module _ {variant : Variant} {meaning : Meaning} {link : Link} {all others : Lis
     pub within : y.is_open ≡ false → IsWithin all others asked (instance_at variant meaning link link.key) (record y { items = entries })
 
   -- the ticket was handed out, so it is good
-  good : (content : TicketContent) → right_ticket meaning variant link.key ticket ≡ Ok content
+  pub good : (content : TicketContent) → right_ticket meaning variant link.key ticket ≡ Ok content
       → IsGoodTicket variant meaning link all (Left s.going) y content
   good content right =
       each_at (IsGoodPaper variant meaning link all (Left s.going) y) handed.tickets ticket s.papers (own content right) content right
 
   -- where it says the module's anchor, and no segment is open, it names the end
-  ends : (content : TicketContent) → right_ticket meaning variant link.key ticket ≡ Ok content → y.is_open ≡ false
+  pub ends : (content : TicketContent) → right_ticket meaning variant link.key ticket ≡ Ok content → y.is_open ≡ false
       → (summary_in content.content.place).bytes ≡ anchor_at variant meaning link y
       → NamesPosition (instance_at variant meaning link link.key) y content.content
   ends content right shut summary =

@@ -117,7 +117,7 @@ module _ {variant : Variant} {meaning : Meaning} {link : Link} {all others : Lis
 
   -- where the module is
   module _ (world : World) (y : History) (handed : Handed) (s : Stands world y handed) where
-    is_live : (other : ℕ) → role_of (world other) ≡ Live → IsLiveCell (s.cells other)
+    pub is_live : (other : ℕ) → role_of (world other) ≡ Live → IsLiveCell (s.cells other)
     is_live other role =
         live_role (s.cells other) (sym (role_held variant meaning link (world other) (s.cells other) (s.order.holds other)) ∙ role)
 

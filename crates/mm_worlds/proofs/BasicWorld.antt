@@ -48,8 +48,8 @@ module _ (meaning : Meaning) (lawful : IsLawful meaning) (link : Link) (all : Li
   abbrev Stands : World → History → Handed → Type 0
   Stands world y handed = StandsInOrder Basic meaning link all [] asked world y handed
 
-  laws : WorldLaws Basic meaning link all [] asked (λ old part new. Unit {0}) (λ old calls. ⊥)
-  laws = record {
+  pub basic_laws : WorldLaws Basic meaning link all [] asked (λ old part new. Unit {0}) (λ old calls. ⊥)
+  basic_laws = record {
     life = λ key. basic_life meaning lawful key all asked clear;
     refuses = refuses;
     clear = clear;
@@ -65,21 +65,21 @@ module _ (meaning : Meaning) (lawful : IsLawful meaning) (link : Link) (all : Li
     abbrev old : Standing
     old = world at
 
-    stepped : (part : WorldPart) (new : Standing) (f : WorldPartLeads Basic meaning link old part new)
+    pub stepped : (part : WorldPart) (new : Standing) (f : WorldPartLeads Basic meaning link old part new)
         → IsHonest Basic meaning link handed old part new f → AreListed all asked (instance_of Basic meaning link old)
         (calls_in Basic meaning link old part new f)
-        → StageGoes laws world y handed s at part new f
+        → StageGoes basic_laws world y handed s at part new f
     stepped (Lives part) new f honest listed =
-        kept_living laws world y handed s at new part f honest.offers listed (λ role. inl tt)
+        kept_living basic_laws world y handed s at new part f honest.offers listed (λ role. inl tt)
     stepped (Invites nonce key result) new f honest listed =
-        kept_inviting laws world y handed s at nonce key new result f.0 f.1 f.2 honest.nonces (λ values role. inl tt)
+        kept_inviting basic_laws world y handed s at nonce key new result f.0 f.1 f.2 honest.nonces (λ values role. inl tt)
     stepped (Retires nonce offer result) new f honest listed =
-        kept_retiring laws world y handed s at nonce offer new f.0 result (λ is. record {
-          genuine = offer_genuine laws world y handed s at offer is honest.offers;
+        kept_retiring basic_laws world y handed s at nonce offer new f.0 result (λ is. record {
+          genuine = offer_genuine basic_laws world y handed s at offer is honest.offers;
           listed = λ content right. none_listed content.place right.variant;
         }) (λ values role. inl tt) f.1
     stepped (Accepts ticket result) new f honest listed =
-        kept_accepting laws world y handed s at ticket new honest.tickets.0 result (λ values role. inl tt)
+        kept_accepting basic_laws world y handed s at ticket new honest.tickets.0 result (λ values role. inl tt)
         (record { entries = y.items; register = λ key. tt; within = λ shut. s.within }) f
 
   -- all stages, one after another
@@ -109,7 +109,7 @@ module _ (meaning : Meaning) (lawful : IsLawful meaning) (link : Link) (all : Li
       record { after = r.after; stands = r.stands; follows = (requests_of p.after.batches, p.steps, r.follows) }
 
   -- the start
-  starts : (world : World) → IsWorldAtStart Basic meaning link world → Contains all (start_message Basic meaning.id)
+  pub starts : (world : World) → IsWorldAtStart Basic meaning link world → Contains all (start_message Basic meaning.id)
       → Stands world first_history (first_handed Basic meaning link world)
   starts world start started =
       let key : List ℕ = key_of (world 0) in
@@ -137,7 +137,7 @@ basic_is_one refuses meaning lawful link world stages f start clear honest =
       follows = g.follows;
       history = g.after;
       holds = refl;
-      somewhere = somewhere (laws meaning lawful link all asked clear refuses) (world_at_end world stages) g.after
+      somewhere = somewhere (basic_laws meaning lawful link all asked clear refuses) (world_at_end world stages) g.after
           (handed_at_end Basic meaning link handed world stages f) g.stands;
       named = g.stands.named;
     }

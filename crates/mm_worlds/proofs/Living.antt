@@ -244,18 +244,31 @@ module _ {variant : Variant} {meaning : Meaning} {link : Link} {all others : Lis
     finds_none held h away (Does LosesPower) = lives_elsewhere held h away variant meaning.id
     finds_none held h away (Does (Checkpoints said)) = λ id. lives_elsewhere held h away Opt id
 
-    elsewhere : (held : Option MovedCell) → s.cells at ≡ held → HoldsCell variant meaning link old held → (IsLiveCell held → ⊥)
-        → PartLived
-    elsewhere held e h away =
+    -- where the module isn't, the history, the list and the cell are left
+    pub record IsLeftElsewhere : Type 0 where
+      pub stands : StandsInOrder variant meaning link all others asked (changed_at world at new) y
+          (handed_more variant meaning link all others asked handed (keyed_snapshots (key_of old) (snapshots_of calls)) [] [])
+      pub steps : PartSteps variant meaning old part new f (requests_of y.batches) (requests_of y.batches)
+      pub cell : new.cell ≡ old.cell
+
+    pub left_elsewhere : (held : Option MovedCell) → s.cells at ≡ held → HoldsCell variant meaning link old held
+        → (IsLiveCell held → ⊥) → IsLeftElsewhere
+    left_elsewhere held e h away =
         let x = laws.refuses variant meaning old part new f (finds_none held h away part) in
         record {
-          after = y;
           stands = kept_still variant meaning link all others asked world y handed s at new
               (subst (λ (x : Option MovedCell). IsLiveCell x → ⊥) (sym e) away) x.cell
               (keyed_snapshots (key_of old) (snapshots_of calls)) [] []
               (rw (none_issued calls x.refused) tt) tt;
           steps = part_refused variant meaning (requests_of y.batches) old part new f x.refused;
+          cell = x.cell;
         }
+
+    elsewhere : (held : Option MovedCell) → s.cells at ≡ held → HoldsCell variant meaning link old held → (IsLiveCell held → ⊥)
+        → PartLived
+    elsewhere held e h away =
+        let x = left_elsewhere held e h away in
+        record { after = y; stands = x.stands; steps = x.steps }
 
     lives_on : (c : Cell) → IsHere c → IsFirstGenuine here y calls → AreListed all asked here calls
         → IsSeen old part new ⊎ IsStill old calls → PartLived
