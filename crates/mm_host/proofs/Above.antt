@@ -9,7 +9,7 @@ pub use Rattle.mm_host.proofs.Leading.{basic_laws, Laws, Makes, Reaches, reach_s
 pub use Rattle.mm_host.proofs.Leading.{ShowsAt, Stays, steps_again, steps_fresh, unspoiled}
 pub use Rattle.mm_host.proofs.Lines.{by_told, tells_call, TellsCall}
 pub use Rattle.mm_host.proofs.NextRefused.{IsFaulty, next_in_hand, next_refused, RefusesOrFails}
-pub use Rattle.mm_host.proofs.OptLeading.{opt_laws}
+pub use Rattle.mm_host.proofs.OptLeading.{opt_laws, opt_reach}
 pub use Rattle.mm_host.proofs.Putting.{fits_room}
 pub use Rattle.mm_host.proofs.Room.{unless_full}
 pub use Rattle.mm_host.proofs.RunningOnce.{by_fault, call_steps, foreign_of, messages_looked, only_by, register_looked, runs_once_from}

@@ -23,7 +23,7 @@ pub use Rattle.mm_seal.specs.Snapshot.{Content, IsContent, offered_snapshot_of, 
 pub use Rattle.mm_seal.specs.declared.snapshot.Place.TheVariants.{Basic as InBasic, Opt as InOpt}
 pub use Rattle.mm_platform.specs.Standing.{foreign_item, Item, Standing}
 pub use Rattle.mm_platform.specs.declared.fault.StepFault.{StepFault}
-pub use Rattle.mm_module.specs.Batch.{Batch, One}
+pub use Rattle.mm_module.specs.Batch.{Batch, One, normal_batch}
 pub use Rattle.mm_module.specs.Meaning.{IsLawful, Meaning}
 pub use Rattle.mm_model.specs.BatchLaws.{total-nil}
 pub use Rattle.mm_model.specs.Chains.{digest_after, summary_of, trail}

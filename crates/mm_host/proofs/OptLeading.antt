@@ -1,6 +1,6 @@
 -- What the calls of a session lead to in Opt.
 use Rattle.mm_host.proofs.Below.{◌≡◌, ℕ, Bool, true, false, List, [], ◌∷◌, ◌++◌, length, refl, sym, ap, ◌∙◌, inl, inr, append-nil}
-use Rattle.mm_host.proofs.Below.{zero_bytes, Opt, Meaning, Batch, InBasic, InOpt, Instance, opt_instance, RegisterEntry, History}
+use Rattle.mm_host.proofs.Below.{zero_bytes, Opt, Meaning, Batch, normal_batch, InBasic, InOpt, Instance, opt_instance, RegisterEntry, History}
 use Rattle.mm_host.proofs.Below.{first_history, has_value, is_empty, IsPoint, at_anchor, in_closed, in_current, IsPlaceOf, anchor_after}
 use Rattle.mm_host.proofs.Below.{content_of_issue, digest_of, IsSound, batches_in, has_value-append, bare, ◌+◌, Some, Result, Ok}
 use Rattle.mm_host.proofs.Below.{append_assoc, arith, append_cancel_right, Item, Standing, IsLawful, One, Commit, history_after}
@@ -76,11 +76,13 @@ opt_place meaning key barrier y named (InOpt a b) sound p e =
 
 -- What the calls of a session lead to in Opt.
 
-opt_reach : (meaning : Meaning) (key barrier : List ℕ) (old new : Standing) (offer request : List ℕ) (gives : Result BatchAnswer Refusal)
-    → IsCallOnCourse Opt meaning old new offer (One request) gives → Reaches Opt (opt_instance meaning key barrier) old new
-opt_reach meaning key barrier old new offer request gives c = λ d s f items known.
+-- from a set flag a call for a batch leaves in front what the register had shown, and the flag stays set
+pub opt_reach : (meaning : Meaning) (key barrier : List ℕ) (old new : Standing) (offer : List ℕ) (batch : Batch)
+    (gives : Result BatchAnswer Refusal) → IsCallOnCourse Opt meaning old new offer batch gives
+    → Reaches Opt (opt_instance meaning key barrier) old new
+opt_reach meaning key barrier old new offer batch gives c = λ d s f items known.
     let i : Instance = opt_instance meaning key barrier in
-    let b : Batch = One request in
+    let b : Batch = normal_batch batch in
     let o = call_outcome i (digest_level i) d c.course offer b in
     let g = c.goes key barrier d s in
     let p = pushed_open meaning key barrier d c.course offer b f in
@@ -221,7 +223,7 @@ opt_laws meaning lawful key barrier all others asked final clear apart = record 
       shows.known shows.ends (λ busy. shows.shown_are);
   idle = λ y old middle offer p gives m idle.
       opt_met_idle meaning lawful key barrier all others asked y old middle offer p gives m.goes m.stands m.asks idle;
-  reach = opt_reach meaning key barrier;
+  reach = λ old new offer request. opt_reach meaning key barrier old new offer (One request);
   formed = issued_content meaning lawful key barrier;
   issue = issued_alike meaning key barrier;
   batches = λ y z e. ap (λ (x : History). x.batches) e;

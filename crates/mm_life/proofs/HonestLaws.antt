@@ -51,7 +51,7 @@ opt_goes_on meaning lawful key barrier values start kept stages f stands honest 
     let y : History = first_history_on values in
     let g = life_goes (opt_proofs.opt_life meaning lawful key barrier all others asked clear apart) stages
     y kept (first_slots i) start f honest told stands
-    (opt_proofs.first_within meaning lawful key barrier values all others asked calls.0) first.fits over
+    (opt_proofs.opt_first_within meaning lawful key barrier values all others asked calls.0) first.fits over
     (opt_proofs.all_seen meaning lawful key barrier all others asked clear apart start stages f seen (each_self [] others)) chance
     (record { messages = calls.1; batches = each_self [] asked }) in
     let shut : has_open_segment start ≡ false =

@@ -136,17 +136,17 @@ gone_from_none g unlost unspoiled = record {
 module _ {all others : List (List ℕ)} {asked : List Batch} {i : Instance} {IsSeen : Standing → LifePart → Standing → Type 0}
     {IsStill : Standing → List LifeCall → Type 0} (life : LifeLaws all others asked i IsSeen IsStill) where
   -- where a part leads, from a history that the slots fit
-  record PartGone (y : History) (kept : StoreStanding) (old : Standing) (part : LifePart) (new : Standing)
+  pub record PartGone (y : History) (kept : StoreStanding) (old : Standing) (part : LifePart) (new : Standing)
       (f : PartLeads i.variant i.meaning old part new) : Type 0 where
-    after : History
-    stands : StandsFor i new after
-    within : IsWithin all others asked i after
-    goes : PartGoesOn all others asked i old part new f (requests_of y.batches) (requests_of after.batches)
-    steps : PartSteps i.variant i.meaning old part new f (requests_of y.batches) (requests_of after.batches)
-    honest : (store_behind kept part).is_honest ≡ true
-    left : Slots
-    told : (store_behind kept part).slots ≡ Some left
-    fits : FitsHistory i left after
+    pub after : History
+    pub stands : StandsFor i new after
+    pub within : IsWithin all others asked i after
+    pub goes : PartGoesOn all others asked i old part new f (requests_of y.batches) (requests_of after.batches)
+    pub steps : PartSteps i.variant i.meaning old part new f (requests_of y.batches) (requests_of after.batches)
+    pub honest : (store_behind kept part).is_honest ≡ true
+    pub left : Slots
+    pub told : (store_behind kept part).slots ≡ Some left
+    pub fits : FitsHistory i left after
 
   module _ (y : History) (kept : StoreStanding) (slots : Slots) (old : Standing) (p : Program) (new : Standing)
       (s : PartLeads i.variant i.meaning old (Holds p) new) (told : p.old.kept.slots ≡ Some slots) (fits : FitsHistory i slots y)
@@ -236,7 +236,7 @@ module _ {all others : List (List ℕ)} {asked : List Batch} {i : Instance} {IsS
   deed_stays y old deed new quiet (inl seen) f stands within = life.stays y old deed new quiet seen f stands within
   deed_stays y old deed new quiet (inr still) f stands within = life.stays_still y old deed new quiet still f stands within
 
-  part_goes : (y : History) (kept : StoreStanding) (slots : Slots) (old : Standing) (part : LifePart) (new : Standing)
+  pub part_goes : (y : History) (kept : StoreStanding) (slots : Slots) (old : Standing) (part : LifePart) (new : Standing)
       (f : PartLeads i.variant i.meaning old part new) → kept.is_honest ≡ true → kept.slots ≡ Some slots
       → StandsFor i old y → IsWithin all others asked i y → FitsHistory i slots y → BeginsOver kept part
       → IsSeen old part new ⊎ IsStill old (part_calls i.variant i.meaning old part new f)

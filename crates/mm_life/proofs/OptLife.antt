@@ -30,26 +30,19 @@ use Rattle.mm_call.specs.CallPremises.{IsWithin, messages_of_moves}
 use Rattle.mm_call.specs.Levels.{state_after_moves, digest_level, list_level}
 use Rattle.mm_call.specs.OfferLaws.{issued_once, opt_content}
 use Rattle.mm_call.specs.CallOnCourse.{IsCallOnCourse}
-use Rattle.mm_call.specs.CallOutcome.{call_outcome, state_seen}
-use Rattle.mm_call.specs.CallFinding.{finding_at}
-use Rattle.mm_call.specs.CallFindingWords.{finding_unless_wanting, is_fresh}
-use Rattle.mm_call.specs.Courses.{has_close, walk}
-use Rattle.mm_call.specs.AlongLaws.{opt_closes}
 use Rattle.mm_call.specs.WalkLaws.{asks}
-use Rattle.mm_model.specs.Steps.{DeviceStep}
 use Rattle.mm_call.specs.Premises.{AreAsked, AreShown}
-use Rattle.mm_call.specs.Standing.{StandsAt, items_after_moves}
+use Rattle.mm_call.specs.Standing.{StandsAt}
 use Rattle.mm_call.specs.ShownItems.{foreign_items, standing_items}
 use Rattle.mm_call.specs.TrailLaws.{foreign_made, foreign_values, reads_beside, register_of_items, with_register}
 use Rattle.mm_call.specs.WalkLaws.{history_with_values, taking_is}
 use Rattle.mm_call.proofs.Above.{agrees_is, bare, counted_open, foreign_agrees, foreign_all, holds_made, holds_moved, holds_open, is_agrees}
-use Rattle.mm_call.proofs.Above.{flag_kept, pushed_open}
 use Rattle.mm_call.proofs.Above.{names_alike, power_fine, stands_at, stands_for, within_items, within_of}
 use Rattle.mm_opt.specs.CheckpointOnCourse.{IsCheckpointOnCourse}
 use Rattle.mm_callers.specs.Closing.{MayClose}
 use Rattle.mm_callers.proofs.Above.{check_goes_on, check_leaves}
 use Rattle.mm_recovery.proofs.Above.{BatchMet, opt_batch_met, opt_batch_met_idle}
-use Rattle.mm_host.proofs.Above.{Reaches, ShowsAt, foreign_of, messages_looked, opt_laws}
+use Rattle.mm_host.proofs.Above.{Reaches, ShowsAt, foreign_of, messages_looked, opt_laws, opt_reach}
 use Rattle.mm_recovery.specs.FirstStart.{first_history_on}
 use Rattle.mm_life.specs.Below.{CheckpointRefusal, Checkpointed}
 use Rattle.mm_life.specs.Deeds.{LifeCall, Calls, Checkpoints, Deed, DeedLeads, Extends, LosesPower}
@@ -213,28 +206,6 @@ module _ (meaning : Meaning) (key barrier : List ℕ) (all others : List (List �
   stays y old LosesPower new quiet seen f stands within = stays_emptied y old new f.0 f.1 stands within
   stays y old (Checkpoints said) new quiet seen f stands within = stays_checked y old new said f.goes seen stands within
 
--- from a set flag a call for a batch leaves in front what the register had shown, and the flag stays set
-batch_reach : (meaning : Meaning) (key barrier : List ℕ) (old new : Standing) (offer : List ℕ) (batch : Batch)
-    (gives : Result BatchAnswer Refusal) → IsCallOnCourse Opt meaning old new offer batch gives
-    → Reaches Opt (opt_instance meaning key barrier) old new
-batch_reach meaning key barrier old new offer batch gives c = λ d s f items known.
-    let i : Instance = opt_instance meaning key barrier in
-    let b : Batch = normal_batch batch in
-    let o = call_outcome i (digest_level i) d c.course offer b in
-    let g = c.goes key barrier d s in
-    let p = pushed_open meaning key barrier d c.course offer b f in
-    let fresh : Bool = is_fresh
-    (finding_unless_wanting (finding_at i (digest_level i) (state_seen i (digest_level i) d c.course) b offer) c.course.lacks) in
-    let quiet : has_close o.moves ≡ false = ap (λ (st : List DeviceStep). has_close (walk c.course.fates 1 st).moves) (asks d.flag fresh b)
-    ∙ opt_closes c.course.fates d.flag fresh b in
-    record {
-      digests = state_after_moves (digest_level i) d o.moves;
-      stands = g.stands;
-      flag = flag_kept meaning key barrier o.moves d f quiet;
-      more = p.more;
-      shows = g.items ∙ ap (option_map (items_after_moves i d o.moves)) known ∙ ap (λ (xs : List Item). Some xs) (p.are items);
-    }
-
 -- a part is still where it is idle
 abbrev IsStill : Standing → List LifeCall → Type 0
 IsStill old calls = is_idle old calls ≡ true
@@ -270,7 +241,7 @@ module _ (meaning : Meaning) (lawful : IsLawful meaning) (key barrier : List ℕ
       → BatchMet all others asked O y new c.offer (normal_batch c.batch) c.gives
   batch_met_in all others asked clear y old new c goes stands asks (inl seen) =
       let shows = shows_by meaning key barrier all others asked clear y old (Does (Calls c)) new y.is_open refl seen stands
-      (batch_reach meaning key barrier old new c.offer c.batch c.gives goes) (λ d s. (_, (goes.goes key barrier d s).stands)) in
+      (opt_reach meaning key barrier old new c.offer c.batch c.gives goes) (λ d s. (_, (goes.goes key barrier d s).stands)) in
       opt_batch_met meaning lawful key barrier all others asked y old new c.offer c.batch c.gives goes stands asks shows.items shows.more
       shows.known shows.ends (λ busy. shows.shown_are)
   batch_met_in all others asked clear y old new c goes stands asks (inr still) =
@@ -300,7 +271,7 @@ module _ (meaning : Meaning) (lawful : IsLawful meaning) (key barrier : List ℕ
         let clash : true ≡ false = sym e ∙ shut in absurd (cc)) f stands within;
   }
 
-  seen_unless : (all others : List (List ℕ)) (old : Standing) (part : LifePart) (new : Standing) (calls : List LifeCall) (idle : Bool)
+  pub seen_unless : (all others : List (List ℕ)) (old : Standing) (part : LifePart) (new : Standing) (calls : List LifeCall) (idle : Bool)
       → is_idle old calls ≡ idle
       → AreMessagesIn (if idle then [] else shown_messages new.items ++ closing_messages part old.cell new.items) all
       → AllByRecursion (Contains others) (if idle then [] else option_map_or foreign_items new.items [])
@@ -341,13 +312,13 @@ module _ (meaning : Meaning) (lawful : IsLawful meaning) (key barrier : List ℕ
     register = λ e. absurd (cc);
   }
 
-  pub first_within : (values all others : List (List ℕ)) (asked : List Batch) → Contains all (start_message Opt meaning.id)
+  pub opt_first_within : (values all others : List (List ℕ)) (asked : List Batch) → Contains all (start_message Opt meaning.id)
       → IsWithin all others asked O (first_history_on values)
-  first_within values all others asked started =
+  opt_first_within values all others asked started =
       record { sound = first_sound values; outside = tt; listed = (started, tt); batches = tt }
 
-  first_genuine : (values : List (List ℕ)) → IsGenuine O (first_history_on values) (issued_bytes O first_history)
-  first_genuine values content right =
+  pub opt_first_genuine : (values : List (List ℕ)) → IsGenuine O (first_history_on values) (issued_bytes O first_history)
+  opt_first_genuine values content right =
       subst (λ (x : Content). NamesPosition O (first_history_on values) x)
       (issued_once O (issued_bytes O first_history) (first_history_on values) content
       (opt_content meaning lawful key barrier (first_history_on values) (omega arith)) refl right)
@@ -369,9 +340,9 @@ opt_is_one meaning lawful key barrier values start stages f stands clear apart u
     let itself = each_self [] all in
     let calls = each_left (Contains all) front back itself in
     let l = (lives (opt_life meaning lawful key barrier all others asked clear apart) stages (first_history_on values)
-    (issued_bytes i first_history ∷ []) start f stands (first_within meaning lawful key barrier values all others asked calls.0)
+    (issued_bytes i first_history ∷ []) start f stands (opt_first_within meaning lawful key barrier values all others asked calls.0)
     (all_seen meaning lawful key barrier all others asked clear apart start stages f (each_right (Contains all) front back itself)
-    (each_self [] others)) (first_genuine meaning lawful key barrier values, tt) untagged
+    (each_self [] others)) (opt_first_genuine meaning lawful key barrier values, tt) untagged
     (record { messages = calls.1; batches = each_self [] asked })).0 in
     record {
       requests = _;

@@ -4,25 +4,25 @@ use Rattle.std.proofs.Common.{arith, ◌≡◌, ◌⊎◌, ◌++◌, ℕ, Bool, 
 use Rattle.std.specs.Prelude.{◌==◌, if◌then◌else◌}
 use Rattle.std.proofs.lemmas.Bool.Decides.{nat_tests}
 use Rattle.std.proofs.lemmas.List.Elements.{Contains-append_left}
-use Rattle.mm_digest.specs.declared.variant.Variant.TheVariants.{Basic}
+use Rattle.mm_digest.specs.declared.variant.Variant.{Variant}
 use Rattle.mm_seal.specs.Snapshot.{Content}
-use Rattle.mm_seal.specs.declared.snapshot.Place.{Place}
-use Rattle.mm_seal.specs.declared.snapshot.Place.TheVariants.{Basic as InBasic, Opt as InOpt}
 use Rattle.mm_platform.specs.Standing.{Standing}
-use Rattle.mm_module.specs.Batch.{Batch}
 use Rattle.mm_module.specs.Meaning.{Meaning}
-use Rattle.mm_model.specs.Chains.{summary_of}
 use Rattle.mm_model.specs.History.{History}
+use Rattle.mm_model.specs.HistoryWords.{cell_digest_of}
 use Rattle.mm_model.specs.Instance.{Instance}
-use Rattle.mm_model.specs.InstanceWords.{basic_instance}
-use Rattle.mm_model.specs.Places.{IsPlaceOf, NamesPosition}
-use Rattle.mm_model.specs.Standing.{cell_of}
-use Rattle.mm_move.specs.Orders.{right_ticket}
+use Rattle.mm_model.specs.Messages.{AreMessagesIn}
+use Rattle.mm_model.specs.PlaceMessages.{place_messages}
+use Rattle.mm_model.specs.Places.{NamesPosition}
+use Rattle.mm_model.specs.Standing.{IsGenuine, RegisterStands, cell_of}
+use Rattle.mm_move.specs.Orders.{barrier_of, is_place_at, right_ticket}
 use Rattle.mm_move.specs.Tickets.{TicketContent, summary_in}
 use Rattle.mm_move.specs.declared.cell.MovedCell.{MovedCell}
 use Rattle.mm_move.specs.declared.cell.MovedCell.TheVariants as moved
 use Rattle.mm_move.specs.declared.link.Link.{Link}
-use Rattle.mm_worlds.proofs.Cells.{HoldsCell, IsAwaited, IsLiveCell}
+use Rattle.mm_worlds.specs.Handed.{KeyedSnapshot}
+use Rattle.mm_worlds.proofs.Cells.{IsAwaited, IsLiveCell}
+use Rattle.mm_worlds.proofs.Cells.{HoldsCell}
 
 -- A thing that each platform has, with that of one platform changed.
 
@@ -76,109 +76,119 @@ both_changed {A} {B} P things others at x y here rest other = by_answer (other =
     by_answer true = here
     by_answer false = rest other
 
--- Of Basic, what a position is named by has no key in it.
+-- What is held on all platforms.
+abbrev pub Cells : Type 0
+Cells = ℕ → Option MovedCell
 
-pub place_alike : (meaning : Meaning) (key other : List ℕ) (y : History) (named : List Batch) (place : Place)
-    → IsPlaceOf Basic (basic_instance meaning key) y named place → IsPlaceOf Basic (basic_instance meaning other) y named place
-place_alike meaning key other y named (InBasic s) h = h
-place_alike meaning key other y named (InOpt a e) h = absurd h
+-- It was invited under the nonce, and nobody waits for it any more: so a ticket was accepted for it.
+pub record IsSpent (cells : Cells) (nonces : List (List ℕ)) (nonce : List ℕ) : Type 0 where
+  pub known : Contains nonces nonce
+  pub awaited : (at : ℕ) → IsAwaited (cells at) nonce → ⊥
 
-pub names_alike : (meaning : Meaning) (key other : List ℕ) (y : History) (content : Content)
-    → NamesPosition (basic_instance meaning key) y content → NamesPosition (basic_instance meaning other) y content
-names_alike meaning key other y content n = record {
-  named = n.named;
-  rest = n.rest;
-  first = n.first;
-  position = n.position;
-  state = n.state;
-  place = place_alike meaning key other y n.named content.place n.place;
+-- more nonces, where none that was known is awaited anew
+pub spent_on : (cells after : Cells) (nonces more : List (List ℕ)) (nonce : List ℕ)
+    → ((at : ℕ) → Contains nonces nonce → IsAwaited (after at) nonce → IsAwaited (cells at) nonce) → IsSpent cells nonces nonce
+    → IsSpent after (nonces ++ more) nonce
+spent_on cells after nonces more nonce back s = record {
+  known = Contains-append_left nonces more nonce s.known;
+  awaited = λ at awaits. s.awaited at (back at s.known awaits);
 }
 
-module _ (meaning : Meaning) (link : Link) where
+abbrev pub HasLeft : (List ℕ → List ℕ → Type 0) → Option MovedCell → Type 0
+HasLeft Left (Some (moved.Retired c)) = Left c.nonce c.summary.bytes
+HasLeft Left held = Unit {0}
+
+pub left_on : (P Q : List ℕ → List ℕ → Type 0) → ((nonce summary : List ℕ) → P nonce summary → Q nonce summary)
+    → (held : Option MovedCell) → HasLeft P held → HasLeft Q held
+left_on P Q on (Some (moved.Retired c)) h = on c.nonce c.summary.bytes h
+left_on P Q on (Some (moved.Live c)) h = tt
+left_on P Q on (Some (moved.Waiting c)) h = tt
+left_on P Q on None h = tt
+
+module _ (variant : Variant) (meaning : Meaning) (link : Link) where
   abbrev pub instance_at : List ℕ → Instance
-  instance_at key = basic_instance meaning key
+  instance_at key = record { variant = variant; meaning = meaning; key = key; barrier = barrier_of variant link }
 
-  abbrev pub Cells : Type 0
-  Cells = ℕ → Option MovedCell
+  -- the summary or anchor, in which there is no key
+  abbrev pub anchor_at : History → List ℕ
+  anchor_at y = cell_digest_of (instance_at link.key) variant y
 
-  -- It was invited under the nonce, and nobody waits for it any more: so a ticket was accepted for it.
-  pub record IsSpent (cells : Cells) (nonces : List (List ℕ)) (nonce : List ℕ) : Type 0 where
-    pub known : Contains nonces nonce
-    pub awaited : (at : ℕ) → IsAwaited (cells at) nonce → ⊥
+  -- a snapshot that was handed out is genuine, under its key
+  abbrev pub IsKeyedGenuine : History → KeyedSnapshot → Type 0
+  IsKeyedGenuine y s = IsGenuine (instance_at s.key) y s.bytes
 
-  -- How a module left, for a nonce and at a summary: it has arrived since; or it is on its way by this very nonce.
+  -- How a module left, for a nonce and at a summary or anchor: it has arrived since; or it is on its way by this very nonce.
   abbrev pub LeftFor : Cells → List (List ℕ) → Option (List ℕ) → History → List ℕ → List ℕ → Type 0
-  LeftFor cells nonces None y nonce summary = IsSpent cells nonces nonce
-  LeftFor cells nonces (Some going) y nonce summary =
-      IsSpent cells nonces nonce ⊎ ((nonce ≡ going) × (summary ≡ summary_of meaning.id y.batches))
+  LeftFor cells nonces None y nonce anchor = IsSpent cells nonces nonce
+  LeftFor cells nonces (Some going) y nonce anchor =
+      IsSpent cells nonces nonce ⊎ ((nonce ≡ going) × (anchor ≡ anchor_at y))
 
-  abbrev pub HasLeft : (List ℕ → List ℕ → Type 0) → Option MovedCell → Type 0
-  HasLeft Left (Some (moved.Retired c)) = Left c.nonce c.summary.bytes
-  HasLeft Left held = Unit {0}
-
-  -- A ticket that was handed out: if it is right, it names a position of the history, and says how the module left.
-  pub record IsGoodTicket (Left : List ℕ → List ℕ → Type 0) (y : History) (content : TicketContent) : Type 0 where
-    pub names : NamesPosition (instance_at link.key) y content.content
+  -- A ticket that was handed out: if it is right, it says what an offer said that names a position of the history and stood at its
+  -- summary or anchor; and how the module left.
+  pub record IsGoodTicket (all : List (List ℕ)) (Left : List ℕ → List ℕ → Type 0) (y : History) (content : TicketContent) : Type 0 where
+    pub offered : Content
+    pub names : NamesPosition (instance_at link.key) y offered
+    pub listed : AreMessagesIn (place_messages offered.place) all
+    pub position : content.content.position ≡ offered.position
+    pub state : content.content.state ≡ offered.state
+    pub at : is_place_at (summary_in content.content.place) offered.place ≡ true
     pub left : Left content.nonce (summary_in content.content.place).bytes
 
-  abbrev pub IsGoodPaper : (List ℕ → List ℕ → Type 0) → History → List ℕ → Type 0
-  IsGoodPaper Left y ticket =
-      (content : TicketContent) → right_ticket meaning Basic link.key ticket ≡ Ok content → IsGoodTicket Left y content
+  abbrev pub IsGoodPaper : List (List ℕ) → (List ℕ → List ℕ → Type 0) → History → List ℕ → Type 0
+  IsGoodPaper all Left y ticket =
+      (content : TicketContent) → right_ticket meaning variant link.key ticket ≡ Ok content → IsGoodTicket all Left y content
 
-  -- the module lives on one platform, at the history
-  pub record LivesAt (cells : Cells) (y : History) : Type 0 where
+  -- the module lives on one platform, at the history, of which in Opt the register has the value
+  pub record LivesAt (world : ℕ → Standing) (cells : Cells) (y : History) : Type 0 where
     pub at : ℕ
     pub key : List ℕ
     pub here : cells at ≡ Some (moved.Live (cell_of (instance_at key) y))
+    pub register : RegisterStands variant (instance_at key) (world at) y
     pub only : (other : ℕ) → IsLiveCell (cells other) → other ≡ at
 
-  abbrev pub IsPlaced : Cells → Option (List ℕ) → History → Type 0
-  IsPlaced cells None y = LivesAt cells y
-  IsPlaced cells (Some going) y = (other : ℕ) → IsLiveCell (cells other) → ⊥
+  -- on its way it left no segment open
+  pub record Travels (cells : Cells) (y : History) : Type 0 where
+    pub shut : y.is_open ≡ false
+    pub none : (other : ℕ) → IsLiveCell (cells other) → ⊥
+
+  abbrev pub IsPlaced : (ℕ → Standing) → Cells → Option (List ℕ) → History → Type 0
+  IsPlaced world cells None y = LivesAt world cells y
+  IsPlaced world cells (Some going) y = Travels cells y
 
   -- what holds between two stages, but for what was handed out
   pub record IsInOrder (world : ℕ → Standing) (cells : Cells) (going : Option (List ℕ)) (y : History)
       (nonces : List (List ℕ)) : Type 0 where
-    pub holds : (at : ℕ) → HoldsCell meaning.id (world at) (cells at)
-    pub placed : IsPlaced cells going y
+    pub holds : (at : ℕ) → HoldsCell variant meaning link (world at) (cells at)
+    pub placed : IsPlaced world cells going y
     pub left : (at : ℕ) → HasLeft (LeftFor cells nonces going y) (cells at)
     pub known : (at : ℕ) (nonce : List ℕ) → IsAwaited (cells at) nonce → Contains nonces nonce
     pub apart : (at other : ℕ) (nonce : List ℕ) → IsAwaited (cells at) nonce → IsAwaited (cells other) nonce → at ≡ other
 
-  pub left_on : (P Q : List ℕ → List ℕ → Type 0) → ((nonce summary : List ℕ) → P nonce summary → Q nonce summary)
-      → (held : Option MovedCell) → HasLeft P held → HasLeft Q held
-  left_on P Q on (Some (moved.Retired c)) h = on c.nonce c.summary.bytes h
-  left_on P Q on (Some (moved.Live c)) h = tt
-  left_on P Q on (Some (moved.Waiting c)) h = tt
-  left_on P Q on None h = tt
-
-  pub papers_on : (P Q : List ℕ → List ℕ → Type 0) (y z : History) → ((nonce summary : List ℕ) → P nonce summary → Q nonce summary)
+  pub papers_on : (all : List (List ℕ)) (P Q : List ℕ → List ℕ → Type 0) (y z : History)
+      → ((nonce anchor : List ℕ) → P nonce anchor → Q nonce anchor)
       → ((content : Content) → NamesPosition (instance_at link.key) y content → NamesPosition (instance_at link.key) z content)
-      → (tickets : List (List ℕ)) → AllByRecursion (IsGoodPaper P y) tickets → AllByRecursion (IsGoodPaper Q z) tickets
-  papers_on P Q y z on names [] g = tt
-  papers_on P Q y z on names (ticket ∷ tickets) g = (
+      → (tickets : List (List ℕ)) → AllByRecursion (IsGoodPaper all P y) tickets → AllByRecursion (IsGoodPaper all Q z) tickets
+  papers_on all P Q y z on names [] g = tt
+  papers_on all P Q y z on names (ticket ∷ tickets) g = (
     λ content right. let good = g.0 content right in record {
-      names = names content.content good.names;
+      offered = good.offered;
+      names = names good.offered good.names;
+      listed = good.listed;
+      position = good.position;
+      state = good.state;
+      at = good.at;
       left = on content.nonce (summary_in content.content.place).bytes good.left;
     },
-    papers_on P Q y z on names tickets g.1,
+    papers_on all P Q y z on names tickets g.1,
   )
 
   -- more nonces, where none that was known is awaited anew
-  pub spent_on : (cells after : Cells) (nonces more : List (List ℕ)) (nonce : List ℕ)
-      → ((at : ℕ) → Contains nonces nonce → IsAwaited (after at) nonce → IsAwaited (cells at) nonce) → IsSpent cells nonces nonce
-      → IsSpent after (nonces ++ more) nonce
-  spent_on cells after nonces more nonce back s = record {
-    known = Contains-append_left nonces more nonce s.known;
-    awaited = λ at awaits. s.awaited at (back at s.known awaits);
-  }
-
   pub left_for_on : (cells after : Cells) (nonces more : List (List ℕ)) (going : Option (List ℕ)) (y : History)
       → ((at : ℕ) (nonce : List ℕ) → Contains nonces nonce → IsAwaited (after at) nonce → IsAwaited (cells at) nonce)
-      → (nonce summary : List ℕ)
-      → LeftFor cells nonces going y nonce summary → LeftFor after (nonces ++ more) going y nonce summary
-  left_for_on cells after nonces more None y back nonce summary h =
+      → (nonce anchor : List ℕ)
+      → LeftFor cells nonces going y nonce anchor → LeftFor after (nonces ++ more) going y nonce anchor
+  left_for_on cells after nonces more None y back nonce anchor h =
       spent_on cells after nonces more nonce (λ at. back at nonce) h
-  left_for_on cells after nonces more (Some going) y back nonce summary (inl h) =
+  left_for_on cells after nonces more (Some going) y back nonce anchor (inl h) =
       inl (spent_on cells after nonces more nonce (λ at. back at nonce) h)
-  left_for_on cells after nonces more (Some going) y back nonce summary (inr h) = inr h
+  left_for_on cells after nonces more (Some going) y back nonce anchor (inr h) = inr h

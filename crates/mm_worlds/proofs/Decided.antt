@@ -135,7 +135,7 @@ module _ (variant : Variant) (meaning : Meaning) (link : Link) where
     honest_apart h (nonce_twice nonce among before) =
         each_at (λ (n : List ℕ). Contains handed.nonces n → ⊥) (nonces_in old part new) nonce h.nonces among before
 
-  all_or : (stages : List WorldStage) (handed : Handed) (world : World) (f : IsWorldLife variant meaning link world stages)
+  pub all_or : (stages : List WorldStage) (handed : Handed) (world : World) (f : IsWorldLife variant meaning link world stages)
       → HasWorldBreach variant meaning link handed world stages f ⊎ AreHonest variant meaning link handed world stages f
   all_or [] handed world f = inr tt
   all_or (stage ∷ stages) handed world f = elim (honest_or handed (world stage.at) stage.part stage.after f.0) [

@@ -85,8 +85,8 @@ module _ (meaning : Meaning) (link : Link) (sites : ThreeSites) (key : List ℕ)
     (first : StandsFor (basic_instance meaning key) sites.first first_history) where
   own_key : key_of sites.first ≡ key
   own_key =
-      key_held meaning.id sites.first (moved.Live (cell_of (basic_instance meaning key) first_history))
-      (record { formed = first.spells; own = (refl, refl); told = first.cell })
+      key_held Basic meaning link sites.first (moved.Live (cell_of (basic_instance meaning key) first_history))
+      (record { formed = first.spells; own = (refl, refl, refl); told = first.cell })
 
   pub starts_so : sites.second.cell ≡ Some blank_cell → sites.third.cell ≡ Some blank_cell
       → IsWorldAtStart Basic meaning link (three_platforms sites)

@@ -112,8 +112,8 @@ module _ (met : MetBy) (link : Link) (world : World) (m : OneMove)
       let l = part_lives (basic_life counter counter_is_lawful key all asked clear) first_history (world 0) (Does (Calls c)) m.asked f.0
       start.first (first_within counter counter_is_lawful key all asked started) (inl tt)
       (first_genuine counter counter_is_lawful key) (record { messages = of_call; batches = ((0, omega arith, refl), tt) }) in
-      key_held counter.id m.asked (moved.Live (cell_of i l.after))
-      (record { formed = l.stands.spells; own = (refl, refl); told = l.stands.cell })
+      key_held Basic counter link m.asked (moved.Live (cell_of i l.after))
+      (record { formed = l.stands.spells; own = (refl, refl, refl); told = l.stands.cell })
 
   same_key : bytes_eq key (key_of m.asked) ≡ true
   same_key = ap (λ (k : List ℕ). bytes_eq key k) key_asked ∙ (bytes_eq-Decides key key).1 refl

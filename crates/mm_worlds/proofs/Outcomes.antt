@@ -1,9 +1,12 @@
 -- What a move comes to, by what it finds in the cell.
 use Rattle.std.proofs.Common.{◌≡◌, ◌∙◌, ℕ, Bool, true, false, List, Option, None, Some, Result, Ok, Err, refl, sym, ap, subst, inl, inr}
+use Rattle.mm_digest.specs.declared.variant.Variant.{Variant}
 use Rattle.mm_seal.specs.declared.cell.CellFault.{CellFault}
 use Rattle.mm_platform.specs.Standing.{Standing}
 use Rattle.mm_platform.specs.Steps.{ReadCell, StepGoes, WriteCell, cell_after}
 use Rattle.mm_platform.specs.declared.fault.StepFault.{StepFault}
+use Rattle.mm_module.specs.Meaning.{Meaning}
+use Rattle.mm_move.specs.declared.link.Link.{Link}
 use Rattle.mm_move.specs.Cells.{moved_cell_of}
 use Rattle.mm_move.specs.Moves.{AreMoveSteps, EndsAfterRead, MakesMoveStep, MoveGoesOn, move_answer}
 use Rattle.mm_move.specs.Refusals.{IsOrNoMemory}
@@ -77,9 +80,11 @@ module _ {A : Type 0} (finds : List ℕ → Result (ReadyMove A) MoveRefusal) (o
   outcome m = by_fault m.fault m.middle m.reads m.after
 
 -- where the cell holds this
-pub move_comes : {A : Type 0} (reads : Result MovedCell CellFault → Result (ReadyMove A) MoveRefusal) (id : ℕ) (old new : Standing)
-    (held : Option MovedCell) (result : Result A MoveRefusal) → HoldsCell id old held
+pub move_comes : {A : Type 0} (variant : Variant) (meaning : Meaning) (link : Link)
+    (reads : Result MovedCell CellFault → Result (ReadyMove A) MoveRefusal) (old new : Standing) (held : Option MovedCell)
+    (result : Result A MoveRefusal) → HoldsCell variant meaning link old held
     → AreMoveSteps (λ bytes. reads (moved_cell_of bytes)) old new result → MoveOutcome (reads (reading_of held)) old new result
-move_comes reads id old new held result h m =
-    subst (λ (r : Result MovedCell CellFault). MoveOutcome (reads r) old new result) (held_read id old held h)
-    (outcome (λ (bytes : List ℕ). reads (moved_cell_of bytes)) old new result (bytes_held held) (held_told id old held h) m)
+move_comes variant meaning link reads old new held result h m =
+    subst (λ (r : Result MovedCell CellFault). MoveOutcome (reads r) old new result) (held_read variant meaning link old held h)
+    (outcome (λ (bytes : List ℕ). reads (moved_cell_of bytes)) old new result (bytes_held held)
+    (held_told variant meaning link old held h) m)

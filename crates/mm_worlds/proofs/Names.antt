@@ -1,4 +1,4 @@
--- Opt: what names a position knows neither key nor items; and an offer that stands where no segment is open names the end there.
+-- What names a position knows neither key nor items; and an offer that stands where no segment is open names the end there.
 use Rattle.std.specs.List.{AllByRecursion, Contains, list_any}
 use Rattle.std.specs.Option.{option_map}
 use Rattle.std.specs.Prelude.{◌&&◌, ◌+◌, if◌then◌else◌, nat_eq}
@@ -6,7 +6,9 @@ use Rattle.std.proofs.Common.{◌≡◌, ◌∙◌, ℕ, Bool, true, false, List
 use Rattle.std.proofs.lemmas.List.Elements.{All-contains, All-from_recursion}
 use Rattle.mm_digest.specs.Messages.{zero_bytes}
 use Rattle.mm_digest.specs.declared.digest.Digest.{Digest}
-use Rattle.mm_digest.specs.declared.variant.Variant.TheVariants.{Opt}
+use Rattle.mm_digest.specs.declared.variant.Variant.{Variant}
+use Rattle.mm_digest.specs.declared.variant.Variant.TheVariants.{Basic, Opt}
+use Rattle.mm_seal.specs.Cell.{FitsVariant}
 use Rattle.mm_seal.specs.Snapshot.{Content}
 use Rattle.mm_seal.specs.declared.snapshot.Place.{Place}
 use Rattle.mm_seal.specs.declared.snapshot.Place.TheVariants.{Basic as InBasic, Opt as InOpt}
@@ -14,23 +16,27 @@ use Rattle.mm_platform.specs.Standing.{Item, Standing, item_values, register_aft
 use Rattle.mm_module.specs.Batch.{Batch, One, size_of}
 use Rattle.mm_module.specs.Meaning.{Meaning, state_after}
 use Rattle.mm_model.specs.BatchLaws.{at_the_end}
-use Rattle.mm_model.specs.Chains.{register_of}
+use Rattle.mm_model.specs.Chains.{register_of, summary_of}
 use Rattle.mm_model.specs.DigestLaws.{register_folds}
 use Rattle.mm_model.specs.History.{History, RegisterEntry, Value, extension_value, items_of_all, register_value_of, requests_of, total_of}
 use Rattle.mm_model.specs.HistoryWords.{cell_digest_of}
 use Rattle.mm_model.specs.Instance.{Instance}
-use Rattle.mm_model.specs.InstanceWords.{opt_instance}
+use Rattle.mm_model.specs.InstanceWords.{basic_instance, opt_instance}
 use Rattle.mm_model.specs.Life.{Life, Live, has_value, life_of}
 use Rattle.mm_model.specs.Messages.{AreMessagesIn, AreNoGuards, IsClear, counted_entries, history_messages, values_in}
 use Rattle.mm_model.specs.PlaceMessages.{is_new, place_messages}
 use Rattle.mm_model.specs.Places.{IsPlaceOf, NamesPosition, issued_place}
 use Rattle.mm_model.specs.PlacesWords.{digest_of}
-use Rattle.mm_model.specs.Standing.{register_reading}
+use Rattle.mm_model.specs.Standing.{flag_of, register_reading}
 use Rattle.mm_model.specs.Verdicts.{forms_of, is_fresh_form, is_last, verdict_by, verdict_by_digests, verdict_by_tests}
 use Rattle.mm_model.proofs.Above.{opt_issued, opt_stands_here, point_kept}
-use Rattle.mm_call.specs.CallPremises.{IsWithin}
+use Rattle.mm_call.specs.CallPremises.{IsLedTo, IsWithin}
 use Rattle.mm_call.proofs.Above.{lives, within_items}
-use Rattle.mm_move.specs.Orders.{is_place_at}
+use Rattle.mm_move.specs.Orders.{barrier_of, is_place_at}
+use Rattle.mm_move.specs.Tickets.{place_at}
+use Rattle.mm_move.specs.declared.link.Link.{Link}
+use Rattle.mm_move.proofs.Above.{bytes_tell}
+use Rattle.mm_worlds.proofs.Between.{anchor_at, instance_at}
 
 place_cross : (meaning : Meaning) (key other barrier : List ℕ) (y : History) (items : List RegisterEntry) (named : List Batch)
     (place : Place) → IsPlaceOf Opt (opt_instance meaning key barrier) y named place
@@ -39,10 +45,10 @@ place_cross meaning key other barrier y items named (InBasic s) p = absurd p
 place_cross meaning key other barrier y items named (InOpt a e) p =
     point_kept (opt_instance meaning key barrier) other y items named a.bytes e.bytes p
 
-pub names_cross : (meaning : Meaning) (key other barrier : List ℕ) (y : History) (items : List RegisterEntry) (content : Content)
+names_opt_cross : (meaning : Meaning) (key other barrier : List ℕ) (y : History) (items : List RegisterEntry) (content : Content)
     → NamesPosition (opt_instance meaning key barrier) y content
     → NamesPosition (opt_instance meaning other barrier) (record y { items = items }) content
-names_cross meaning key other barrier y items content n = record {
+names_opt_cross meaning key other barrier y items content n = record {
   named = n.named;
   rest = n.rest;
   first = n.first;
@@ -50,12 +56,6 @@ names_cross meaning key other barrier y items content n = record {
   state = n.state;
   place = place_cross meaning key other barrier y items n.named content.place n.place;
 }
-
--- neither key nor items are in what is asked of a history where no segment is open
-pub within_key : (meaning : Meaning) (key other barrier : List ℕ) (all others : List (List ℕ)) (asked : List Batch) (y : History)
-    → IsWithin all others asked (opt_instance meaning key barrier) y → IsWithin all others asked (opt_instance meaning other barrier) y
-within_key meaning key other barrier all others asked y w =
-    record { sound = w.sound; outside = w.outside; listed = w.listed; batches = w.batches }
 
 -- a register that others alone extended
 values_back : (barrier : List ℕ) (values : List (List ℕ)) → map (extension_value barrier) (map Value values) ≡ values
@@ -132,7 +132,7 @@ module _ (meaning : Meaning) (key barrier : List ℕ) where
         let v = within_items meaning key barrier all others asked y [] shut within in
         let same = opt_stands_here meaning key barrier z offered (One []) all v.sound clear (bare_listed all y y.is_open v.listed) listed
         (no_guards barrier others asked (values_in (counted_entries z)) z.batches apart v.outside v.batches)
-        (names_cross meaning key key barrier y [] offered n) in
+        (names_opt_cross meaning key key barrier y [] offered n) in
         let new : is_new (verdict_by_digests barrier y.is_open (cell_digest_of I Opt z) (register_value_of I z) offered.place (One []))
         ≡ true =
         ap (λ (f : Bool). is_new (verdict_by_digests barrier f (cell_digest_of I Opt z) (register_value_of I z) offered.place (One [])))
@@ -150,7 +150,7 @@ module _ (meaning : Meaning) (key barrier : List ℕ) where
         }
 
     -- what says so at the anchor names the end too
-    pub end_named : (offered said : Content) (summary : Digest) → NamesPosition I y offered
+    end_named : (offered said : Content) (summary : Digest) → NamesPosition I y offered
         → AreMessagesIn (place_messages offered.place) all → summary.bytes ≡ cell_digest_of I Opt y
         → is_place_at summary offered.place ≡ true → said.position ≡ offered.position → said.state ≡ offered.state
         → said.place ≡ InOpt summary (record { bytes = zero_bytes }) → NamesPosition I y said
@@ -169,6 +169,83 @@ module _ (meaning : Meaning) (key barrier : List ℕ) where
           place = subst (λ (p : Place). IsPlaceOf Opt I y m.named p) here m.place;
         }
 
-pub names_key : (meaning : Meaning) (key other barrier : List ℕ) (y : History) (content : Content)
-    → NamesPosition (opt_instance meaning key barrier) y content → NamesPosition (opt_instance meaning other barrier) y content
-names_key meaning key other barrier y content n = names_cross meaning key other barrier y y.items content n
+-- So it is of both variants.
+
+at_place : (meaning : Meaning) (key : List ℕ) (y : History) (named : List Batch) (summary : Digest) (place : Place)
+    → IsPlaceOf Basic (basic_instance meaning key) y named place → is_place_at summary place ≡ true
+    → summary.bytes ≡ summary_of meaning.id named
+at_place meaning key y named summary (InBasic s) h at = sym (bytes_tell s.bytes summary.bytes at) ∙ h
+at_place meaning key y named summary (InOpt a e) h at = absurd h
+
+place_alike : (variant : Variant) (meaning : Meaning) (link : Link) (key other : List ℕ) (y : History) (items : List RegisterEntry)
+    (named : List Batch) (place : Place) → IsPlaceOf variant (instance_at variant meaning link key) y named place
+    → IsPlaceOf variant (instance_at variant meaning link other) (record y { items = items }) named place
+place_alike Basic meaning link key other y items named (InBasic s) p = p
+place_alike Basic meaning link key other y items named (InOpt a e) p = absurd p
+place_alike Opt meaning link key other y items named place p = place_cross meaning key other link.barrier y items named place p
+
+module _ (variant : Variant) (meaning : Meaning) (link : Link) where
+  pub names_cross : (key other : List ℕ) (y : History) (items : List RegisterEntry) (content : Content)
+      → NamesPosition (instance_at variant meaning link key) y content
+      → NamesPosition (instance_at variant meaning link other) (record y { items = items }) content
+  names_cross key other y items content n = record {
+    named = n.named;
+    rest = n.rest;
+    first = n.first;
+    position = n.position;
+    state = n.state;
+    place = place_alike variant meaning link key other y items n.named content.place n.place;
+  }
+
+  pub names_key : (key other : List ℕ) (y : History) (content : Content) → NamesPosition (instance_at variant meaning link key) y content
+      → NamesPosition (instance_at variant meaning link other) y content
+  names_key key other y content n = names_cross key other y y.items content n
+
+-- no key is in what is asked of a history, nor in its summary or anchor
+pub within_key : (variant : Variant) (meaning : Meaning) (link : Link) (key other : List ℕ) (all others : List (List ℕ))
+    (asked : List Batch) (y : History) → IsWithin all others asked (instance_at variant meaning link key) y
+    → IsWithin all others asked (instance_at variant meaning link other) y
+within_key Basic meaning link key other all others asked y w =
+    record { sound = w.sound; outside = w.outside; listed = w.listed; batches = w.batches }
+within_key Opt meaning link key other all others asked y w =
+    record { sound = w.sound; outside = w.outside; listed = w.listed; batches = w.batches }
+
+pub digest_at : (variant : Variant) (meaning : Meaning) (link : Link) (key : List ℕ) (y : History) (items : List RegisterEntry)
+    → cell_digest_of (instance_at variant meaning link key) variant (record y { items = items }) ≡ anchor_at variant meaning link y
+digest_at Basic meaning link key y items = refl
+digest_at Opt meaning link key y items = refl
+
+-- a cell without the flag is of a history without an open segment
+pub shut_by : (variant : Variant) (y : History) → IsLedTo variant y → flag_of variant y ≡ false → y.is_open ≡ false
+shut_by Basic y sound e = sound.shut
+shut_by Opt y sound e = e
+
+pub flag_shut : (variant : Variant) (y : History) → y.is_open ≡ false → flag_of variant y ≡ false
+flag_shut Basic y e = refl
+flag_shut Opt y e = e
+
+pub fits_shut : (variant : Variant) (link : Link) (flag : Bool) → flag ≡ false → FitsVariant variant flag (barrier_of variant link)
+fits_shut Basic link flag e = (e, refl)
+fits_shut Opt link flag e = tt
+
+-- what says so at the summary or anchor names the end too
+pub names_end : (variant : Variant) (meaning : Meaning) (link : Link) (all others : List (List ℕ)) (asked : List Batch) → IsClear all
+    → AreNoGuards (barrier_of variant link) others asked → (y : History) → y.is_open ≡ false
+    → IsWithin all others asked (instance_at variant meaning link link.key) y → (offered said : Content) (summary : Digest)
+    → NamesPosition (instance_at variant meaning link link.key) y offered → AreMessagesIn (place_messages offered.place) all
+    → summary.bytes ≡ anchor_at variant meaning link y → is_place_at summary offered.place ≡ true → said.position ≡ offered.position
+    → said.state ≡ offered.state → said.place ≡ place_at variant summary
+    → NamesPosition (instance_at variant meaning link link.key) y said
+names_end Basic meaning link all others asked clear apart y shut within offered said summary n listed is at position state place =
+    record {
+      named = n.named;
+      rest = n.rest;
+      first = n.first;
+      position = position ∙ n.position;
+      state = state ∙ n.state;
+      place = subst (λ (p : Place). IsPlaceOf Basic (basic_instance meaning link.key) y n.named p) (sym place)
+          (at_place meaning link.key y n.named summary offered.place n.place at);
+    }
+names_end Opt meaning link all others asked clear apart y shut within offered said summary n listed is at position state place =
+    end_named meaning link.key link.barrier all others asked clear apart y shut within offered said summary n listed is at position state
+    place

@@ -1,0 +1,5 @@
+mod OneHistory
+mod Arriving
+mod GoingOn
+mod Putting
+mod Crossings

@@ -1,0 +1,155 @@
+//! A caller: a module of Basic that is carried from one platform to another, over an honest store
+//! on each, with a session on either side.
+
+ghost use Rattle.std.specs.Prelude.{IfOk};
+ghost use Rattle.mm_base.specs.Lines.{IsLineFront};
+ghost use Rattle.mm_bytes.specs.Limits.{longest_request};
+ghost use Rattle.mm_worlds.specs.Crossing.{both_sites, site_standing};
+ghost use Rattle.mm_honest_worlds.specs.Arrivals.{PutsArrival};
+ghost use Rattle.mm_honest_worlds.specs.Carrying.{CarriesOver};
+
+use crate::arrival::{empty_records, put_arrival};
+use crate::laws::world_goes_on_or_evidence;
+use mm_base::{Sink, Source};
+use mm_bytes::LAST_POSITION;
+use mm_digest::Variant;
+use mm_host::{SessionFault, session};
+use mm_module::Module;
+use mm_move::{Accepted, Invited, Link, MoveRefusal, accept, invite, retire};
+use mm_platform::Platform;
+use mm_store::{LONGEST_SLOT, Store, StoreFault};
+use std::alloc::Global;
+
+/// What came of it, where the module arrived and its store was written.
+#[derive(Drop)]
+pub struct Carried {
+    pub first: Result<(), SessionFault>,
+    pub invited: Result<Invited, MoveRefusal>,
+    pub accepted: Accepted,
+    pub second: Result<(), SessionFault>,
+}
+
+/// Why the module wasn't carried to the second session.
+#[derive(Drop)]
+pub enum CarryingFault {
+    /// A retirement or an acceptance was refused.
+    Moving(MoveRefusal),
+    /// The second store failed.
+    Keeping(StoreFault),
+    /// No position is left for a request, or no slot is as long as the snapshot.
+    NoRoom,
+}
+
+/// A session on the first platform; the second one is invited; the first one is retired with this
+/// offer, and the ticket is accepted on the second. Before that its store's records are emptied;
+/// behind it the acceptance's snapshot and the record of this request are written, the first line
+/// that the session there tells.
+pub fn carry_over<
+    M: Module,
+    P: Platform,
+    Q: Platform,
+    T: Store,
+    U: Store,
+    S: Source,
+    R: Source,
+    K: Sink,
+    L: Sink,
+>(
+    alloc: Global,
+    module: &M,
+    link: &Link,
+    nonce: &[u8; 32],
+    key: &[u8; 32],
+    offer: &[u8],
+    request: &[u8],
+    first: &mut P,
+    first_store: &mut T,
+    first_input: &mut S,
+    first_out: &mut K,
+    second: &mut Q,
+    second_store: &mut U,
+    second_input: &mut R,
+    second_out: &mut L,
+) -> Result<Carried, CarryingFault>
+    requires line { IsLineFront longest_request request.now }
+    ensures { IfOk result (λ carried. CarriesOver (M.meaning «module».now) link.now nonce.now
+        key.now offer.now
+        (both_sites
+        (site_standing (P.standing first.old) (T.kept first_store.old) (S.left first_input.old)
+        (K.received first_out.old))
+        (site_standing (Q.standing second.old) (U.kept second_store.old) (R.left second_input.old)
+        (L.received second_out.old)))
+        (both_sites
+        (site_standing (P.standing first.new) (T.kept first_store.new) (S.left first_input.new)
+        (K.received first_out.new))
+        (site_standing (Q.standing second.new) (U.kept second_store.new) (R.left second_input.new)
+        (L.received second_out.new))) carried) }
+{
+    // A law, which does nothing: the clause rests on its contract.
+    world_goes_on_or_evidence();
+    let served = session(
+        alloc,
+        Variant::Basic,
+        module,
+        first,
+        first_store,
+        first_input,
+        first_out,
+    );
+    let invited = invite(second, link, Variant::Basic, module.id(), nonce, key);
+    match retire(alloc, module, Variant::Basic, first, link, nonce, offer) {
+        Err(refusal) => Err(CarryingFault::Moving(refusal)),
+        Ok(ticket) => match empty_records(second_store) {
+            Err(fault) => Err(CarryingFault::Keeping(fault)),
+            Ok(()) => match accept(
+                alloc,
+                module,
+                Variant::Basic,
+                second,
+                link,
+                ticket.as_slice(),
+            ) {
+                Err(refusal) => Err(CarryingFault::Moving(refusal)),
+                Ok(accepted) => match keep_arrival(alloc, second_store, &accepted, request) {
+                    Err(fault) => Err(fault),
+                    Ok(()) => {
+                        let again = session(
+                            alloc,
+                            Variant::Basic,
+                            module,
+                            second,
+                            second_store,
+                            second_input,
+                            second_out,
+                        );
+                        Ok(Carried {
+                            first: served,
+                            invited,
+                            accepted,
+                            second: again,
+                        })
+                    }
+                },
+            },
+        },
+    }
+}
+
+// Puts what belongs to the acceptance, where there is room for it.
+fn keep_arrival<T: Store>(
+    alloc: Global,
+    store: &mut T,
+    accepted: &Accepted,
+    request: &[u8],
+) -> Result<(), CarryingFault>
+    requires line { IsLineFront longest_request request.now }
+    ensures { IfOk result (λ it. PutsArrival accepted.now (T.kept store.old) (T.kept store.new)) }
+{
+    if accepted.position >= LAST_POSITION || accepted.snapshot.as_slice().len() > LONGEST_SLOT {
+        return Err(CarryingFault::NoRoom);
+    }
+    match put_arrival(alloc, store, accepted, request) {
+        Err(fault) => Err(CarryingFault::Keeping(fault)),
+        Ok(()) => Ok(()),
+    }
+}
