@@ -11,8 +11,9 @@ IsNextAfter position None = position ≡ 0
 IsNextAfter position (Some p) = p.position ≡ position + 1
 
 -- What the host has put into the slots at an arrival: the acceptance's snapshot into the slot of
--- its position mod 2, and the record of the next request, so that it waits, unless there was none
--- yet. A request in hand where the module left stays there in its record: here nothing of it waits.
+-- its position mod 2, and the record of the next request, so that it waits; at position 0 it may be
+-- that nothing waits. A request in hand where the module left stays there in its record, and is
+-- told nowhere else: here none waits but what the host put there for the next position.
 pub record HasArrived (accepted : Accepted) (slots : Slots) : Type 0 where
   pub snapshot : slot_front slots (accepted.position % 2) ≡ accepted.snapshot
   pub waiting : Option PendingRecord

@@ -1,10 +1,12 @@
-//! A crossing between two platforms in memory, with a session on either side.
+//! A crossing between two platforms in memory, with a session on either side; and one over two
+//! honest stores, where the host writes what belongs to the arrival.
 
 use mm_ask::{Secrets, provision};
 use mm_base::{MemSink, MemSource};
 use mm_basic::ask;
 use mm_bytes::{Bytes, Memory};
 use mm_digest::Variant;
+use mm_honest_worlds::{Carried, carry_over};
 use mm_model::{Answer, Refusal};
 use mm_module::Counter;
 use mm_move::{Accepted, Link, MoveRefusal, accept, invite, retire};
@@ -184,5 +186,62 @@ fn a_module_crosses_over(rt: HostRuntime) -> Result<(), Fail> {
     };
     let made = provision(rt.alloc(), Variant::Basic, &Counter, &secrets)?;
     assert!(rt; is_crossed_from(rt.alloc(), &made.cell, made.snapshot.as_slice())?);
+    Ok(())
+}
+
+fn has_come_well(carried: &Carried) -> bool {
+    carried.first.is_ok() && carried.invited.is_ok() && carried.second.is_ok()
+}
+
+fn is_carried(alloc: Global, first: &mut Site, second: &mut Site, offer: &[u8]) -> bool {
+    match carry_over(
+        alloc,
+        &Counter,
+        &LINK,
+        &NONCE,
+        &KEY,
+        offer,
+        b"add 7",
+        &mut first.platform,
+        &mut first.store,
+        &mut first.input,
+        &mut first.out,
+        &mut second.platform,
+        &mut second.store,
+        &mut second.input,
+        &mut second.out,
+    ) {
+        Ok(carried) => has_come_well(&carried),
+        Err(_) => false,
+    }
+}
+
+// Whether the request that was put there is told first, at the next position, and the line behind
+// it.
+fn is_carried_with(alloc: Global, first: &mut Site, second: &mut Site, offer: &[u8]) -> bool {
+    is_carried(alloc, first, second, offer)
+        && first.out.content() == b"ok 1 5\nok 2 11\n".as_slice()
+        && second.out.content() == b"ok 3 18\nok 4 26\n".as_slice()
+}
+
+fn is_carried_by(alloc: Global, behind: &mut Site, offers: &Offers) -> Result<bool, Memory> {
+    let mut ahead = new_site(alloc, &[0; 104], &[], b"add 8\n")?;
+    Ok(is_carried_with(alloc, behind, &mut ahead, offers.left.as_slice()))
+}
+
+fn is_carried_from(alloc: Global, cell: &[u8; 104], first: &[u8]) -> Result<bool, Memory> {
+    let offers = offers_from(alloc, cell, first)?;
+    let mut behind = new_site(alloc, cell, first, b"add 5\nadd 6\n")?;
+    is_carried_by(alloc, &mut behind, &offers)
+}
+
+#[test]
+fn a_module_is_carried_over(rt: HostRuntime) -> Result<(), Fail> {
+    let secrets = Secrets {
+        key: [9; 32],
+        barrier: [0; 32],
+    };
+    let made = provision(rt.alloc(), Variant::Basic, &Counter, &secrets)?;
+    assert!(rt; is_carried_from(rt.alloc(), &made.cell, made.snapshot.as_slice())?);
     Ok(())
 }
