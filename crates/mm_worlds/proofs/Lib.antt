@@ -11,6 +11,7 @@ mod Papers
 mod Inviting
 mod Retiring
 mod Accepting
+mod AnyWorld
 mod BasicWorld
 mod Promises
 mod Decided

@@ -1,21 +1,24 @@
 -- Opt: a world is one.
+use Rattle.mm_model.specs.History.{requests_of, History, Value}
+use Rattle.mm_worlds.specs.OneWorld.{WorldFollows}
+use Rattle.mm_worlds.specs.Premises.{AreHonest, handed_after}
 use Rattle.std.specs.List.{AllByRecursion, Contains, flat_map}
-use Rattle.std.proofs.Common.{◌≡◌, ◌∙◌, ◌++◌, ℕ, List, [], ◌∷◌, Option, None, Some, ◌⊎◌, map, true, refl, sym, subst, inl, inr}
+use Rattle.std.proofs.Common.{◌≡◌, ◌++◌, ℕ, List, [], ◌∷◌, Option, None, Some, ◌⊎◌, map, true, refl, subst}
 use Rattle.mm_digest.specs.Messages.{start_message}
 use Rattle.mm_digest.specs.declared.variant.Variant.TheVariants.{Opt}
 use Rattle.mm_platform.specs.Standing.{Item, Standing, item_values}
 use Rattle.mm_module.specs.Batch.{Batch}
 use Rattle.mm_module.specs.Meaning.{IsLawful, Meaning}
-use Rattle.mm_model.specs.History.{History, Value, requests_of}
 use Rattle.mm_model.specs.Instance.{Instance}
 use Rattle.mm_model.specs.ListLaws.{each_left, each_right, each_self}
 use Rattle.mm_model.specs.Messages.{AreMessagesIn, AreNoGuards, IsClear}
-use Rattle.mm_model.specs.Standing.{IsGenuine, StandsFor, cell_of}
+use Rattle.mm_model.specs.PlaceMessages.{place_messages}
+use Rattle.mm_model.specs.Standing.{IsRight}
 use Rattle.std.specs.Option.{option_map_or}
 use Rattle.std.specs.Prelude.{IsSome}
 use Rattle.mm_seal.specs.Snapshot.{Content}
 use Rattle.mm_call.specs.ShownItems.{foreign_items}
-use Rattle.mm_call.proofs.Above.{each_at, within_items}
+use Rattle.mm_call.proofs.Above.{within_items}
 use Rattle.mm_outcome.proofs.Above.{said_of}
 use Rattle.mm_life.specs.Deeds.{Extends, LifeCall}
 use Rattle.mm_life.specs.DeedHistory.{IsSeen}
@@ -23,32 +26,29 @@ use Rattle.mm_life.specs.IdleParts.{is_idle}
 use Rattle.mm_life.specs.Stages.{Does, LifePart, part_calls}
 use Rattle.mm_life.proofs.Above.{opt_first_genuine, opt_first_within, opt_life, seen_unless}
 use Rattle.mm_life.specs.PartsElsewhere.{PartsAreRefusedElsewhere}
-use Rattle.mm_life.specs.Premises.{IsUntagged, bytes_unless_idle, call_batches, closing_messages, shown_messages}
-use Rattle.mm_move.specs.declared.cell.MovedCell.{MovedCell}
+use Rattle.mm_life.specs.Premises.{bytes_unless_idle, call_batches, closing_messages, shown_messages}
 use Rattle.mm_move.specs.declared.cell.MovedCell.TheVariants as moved
 use Rattle.mm_move.specs.declared.link.Link.{Link}
 use Rattle.mm_recovery.specs.FirstStart.{first_history_on}
 use Rattle.mm_sides.specs.Premises.{messages_of_closing, offer_closing_messages}
 use Rattle.mm_sides.specs.Roles.{Live, Role}
-use Rattle.mm_worlds.specs.Handed.{Handed, snapshots_under}
+use Rattle.mm_worlds.specs.Handed.{Handed}
 use Rattle.mm_worlds.specs.Laws.{OptWorldIsOne}
-use Rattle.mm_worlds.specs.OneWorld.{IsSomewhere, WorldFollows, WorldPartSteps, lives, travels}
 use Rattle.mm_worlds.specs.OptPremises.{AreRegistersTold, IsOptWorldAtStart, TellsRegister, bytes_if_live, opt_messages_from, opt_messages_in}
 use Rattle.mm_worlds.specs.OptPremises.{opt_world_messages, others_values_in, register_messages_in, retirement_messages, world_batches}
 use Rattle.mm_worlds.specs.OptPremises.{world_values}
 use Rattle.mm_worlds.specs.Platforms.{instance_of, key_of, role_of}
-use Rattle.mm_worlds.specs.Premises.{AreHonest, IsHonest, asked_messages, calls_at, calls_in, first_handed, handed_after, handed_at_end, offers_to}
+use Rattle.mm_worlds.specs.Premises.{IsHonest, asked_messages, calls_at, calls_in, first_handed, handed_at_end, offers_to}
 use Rattle.mm_worlds.specs.Worlds.{Accepts, Invites, IsWorldLife, Lives, Retires, World, WorldPart, WorldPartLeads, WorldStage, world_after}
 use Rattle.mm_worlds.specs.Worlds.{world_at_end}
-use Rattle.mm_worlds.proofs.Cells.{IsAwaited, IsLiveCell, live_role}
 use Rattle.mm_worlds.proofs.Accepting.{kept_accepting}
-use Rattle.mm_worlds.proofs.Between.{HasLeft, IsInOrder, LeftFor, changed_at, each_changed, from_changed, here_changed, instance_at}
-use Rattle.mm_worlds.proofs.Cells.{HoldsCell, HoldsOwn, key_held, role_held}
+use Rattle.mm_worlds.proofs.Between.{instance_at}
 use Rattle.mm_worlds.proofs.Inviting.{kept_inviting}
+use Rattle.mm_worlds.proofs.AnyWorld.{StageGoes, first_cells, first_order, offer_genuine, offer_minded, somewhere}
 use Rattle.mm_worlds.proofs.Kept.{StandsInOrder}
-use Rattle.mm_worlds.proofs.Living.{WorldLaws, kept_living, under_genuine}
+use Rattle.mm_worlds.proofs.Living.{WorldLaws, kept_living}
 use Rattle.mm_worlds.proofs.Names.{register_on}
-use Rattle.mm_worlds.proofs.Retiring.{IsFineOffer, IsOrWas, kept_retiring}
+use Rattle.mm_worlds.proofs.Retiring.{IsOrWas, kept_retiring}
 
 told_items : (items : Option (List Item)) → IsSome items → (xs : List Item) × (items ≡ Some xs)
 told_items None told = absurd (cc)
@@ -81,37 +81,16 @@ module _ (meaning : Meaning) (lawful : IsLawful meaning) (link : Link) (all othe
     abbrev here : Instance
     here = instance_of Opt meaning link old
 
-    abbrev Untagged : List (List ℕ) → Type 0
-    Untagged offers = AllByRecursion (IsUntagged here (snapshots_under (key_of old) handed.snapshots)) offers
-
     abbrev closings : List (List ℕ) → List (List ℕ)
     closings offers = flat_map (λ bytes. offer_closing_messages here (Some bytes)) offers
 
-    -- what was handed out under this key is genuine, so an offer that nobody else tagged is
-    offer_fine : (offer : List ℕ) → Untagged (offer ∷ []) → AreMessagesIn (closings (offer ∷ [])) all
-        → IsFineOffer Opt meaning link [] offer all y (key_of old)
-    offer_fine offer u listed = record {
-      genuine = λ content right. each_at (IsGenuine here y) (snapshots_under (key_of old) handed.snapshots) offer
-          (under_genuine Opt meaning link y (key_of old) handed.snapshots s.named) (u.0 content right) content right;
-      listed = λ content right. subst (λ (c : Option Content). AreMessagesIn (messages_of_closing c) all)
-          (said_of here offer content right) (each_left (Contains all) (offer_closing_messages here (Some offer)) [] listed);
-    }
-
-    fine_where : (nonce offer : List ℕ) (held : Option MovedCell) → HoldsCell Opt meaning link old held
-        → Untagged (offers_to (role_of old) offer) → AreMessagesIn (closings (offers_to (role_of old) offer)) all → IsOrWas held
-        → IsFineOffer Opt meaning link nonce offer all y (key_of old)
-    fine_where nonce offer (Some (moved.Live c)) h u listed is =
-        let role = role_held Opt meaning link old (Some (moved.Live c)) h in
-        let fine = offer_fine offer (subst (λ (r : Role). Untagged (offers_to r offer)) role u)
-        (subst (λ (r : Role). AreMessagesIn (closings (offers_to r offer)) all) role listed) in
-        record { genuine = fine.genuine; listed = fine.listed }
-    fine_where nonce offer (Some (moved.Retired c)) h u listed is =
-        let role = role_held Opt meaning link old (Some (moved.Retired c)) h in
-        let fine = offer_fine offer (subst (λ (r : Role). Untagged (offers_to r offer)) role u)
-        (subst (λ (r : Role). AreMessagesIn (closings (offers_to r offer)) all) role listed) in
-        record { genuine = fine.genuine; listed = fine.listed }
-    fine_where nonce offer (Some (moved.Waiting c)) h u listed is = absurd is
-    fine_where nonce offer None h u listed is = absurd is
+    offer_listed : (offer : List ℕ) → IsOrWas (s.cells at) → AreMessagesIn (closings (offers_to (role_of old) offer)) all
+        → (content : Content) → IsRight here offer content → AreMessagesIn (place_messages content.place) all
+    offer_listed offer is listed content right =
+        subst (λ (c : Option Content). AreMessagesIn (messages_of_closing c) all) (said_of here offer content right)
+        (each_left (Contains all) (offer_closing_messages here (Some offer)) []
+        (offer_minded laws world y handed s at (λ offers. AreMessagesIn (closings offers) all) offer is
+        listed))
 
     -- what the register shows is asked of it where the module is
     seen_where : (part : LifePart) (new : Standing) (calls : Role → List LifeCall)
@@ -128,11 +107,6 @@ module _ (meaning : Meaning) (lawful : IsLawful meaning) (link : Link) (all othe
         (option_map_or foreign_items new.items [])))) role values)
 
     -- one stage
-    record Stepped (part : WorldPart) (new : Standing) (f : WorldPartLeads Opt meaning link old part new) : Type 0 where
-      after : History
-      stands : Stands (changed_at world at new) after (handed_after Opt meaning link handed old part new f)
-      steps : WorldPartSteps Opt meaning link old part new f (requests_of y.batches) (requests_of after.batches)
-
     module _ (part : WorldPart) (new : Standing) (f : WorldPartLeads Opt meaning link old part new) (l : IsListed old part new f) where
       abbrev own : List (List ℕ)
       own = asked_messages here (calls_in Opt meaning link old part new f)
@@ -154,32 +128,32 @@ module _ (meaning : Meaning) (lawful : IsLawful meaning) (link : Link) (all othe
           (each_right (Contains all) own (register ++ retirement_messages meaning link old part) l.messages)
 
     stepped : (part : WorldPart) (new : Standing) (f : WorldPartLeads Opt meaning link old part new)
-        → IsHonest Opt meaning link handed old part new f → IsListed old part new f → Stepped part new f
+        → IsHonest Opt meaning link handed old part new f → IsListed old part new f
+        → StageGoes laws world y handed s at part new f
     stepped (Lives part) new f honest l =
-        let k = kept_living laws world y handed s at new part f honest.offers
+        kept_living laws world y handed s at new part f honest.offers
         (record { messages = calls_listed (Lives part) new f l; batches = l.batches })
         (seen_where part new (λ role. calls_at role (part_calls Opt meaning old part new f)) (register_listed (Lives part) new f l)
-        l.values) in
-        record { after = k.after; stands = k.stands; steps = k.steps }
+        l.values)
     stepped (Invites nonce key result) new f honest l =
-        let k = kept_inviting laws world y handed s at nonce key new result f.0 f.1 f.2 honest.nonces
-        (λ values. seen_where (Does (Extends values)) new (λ role. []) (register_listed (Invites nonce key result) new f l) l.values) in
-        record { after = k.after; stands = k.stands; steps = k.steps }
+        kept_inviting laws world y handed s at nonce key new result f.0 f.1 f.2 honest.nonces
+        (λ values. seen_where (Does (Extends values)) new (λ role. []) (register_listed (Invites nonce key result) new f l) l.values)
     stepped (Retires nonce offer result) new f honest l =
-        let k = kept_retiring laws world y handed s at nonce offer new f.0 result
-        (fine_where nonce offer (s.cells at) (s.order.holds at) honest.offers (retirement_listed (Retires nonce offer result) new f l))
+        kept_retiring laws world y handed s at nonce offer new f.0 result
+        (λ is. record {
+          genuine = offer_genuine laws world y handed s at offer is honest.offers;
+          listed = offer_listed offer is (retirement_listed (Retires nonce offer result) new f l);
+        })
         (λ values. seen_where (Does (Extends values)) new (λ role. []) (register_listed (Retires nonce offer result) new f l) l.values)
-        f.1 in
-        record { after = k.after; stands = k.stands; steps = k.steps }
+        f.1
     stepped (Accepts ticket result) new f honest l =
         let t = told_items new.items l.told in
-        let k = kept_accepting laws world y handed s at ticket new honest.tickets.0 result
+        kept_accepting laws world y handed s at ticket new honest.tickets.0 result
         (λ values. seen_where (Does (Extends values)) new (λ role. []) (register_listed (Accepts ticket result) new f l) l.values) (record {
           entries = map Value (item_values t.0);
           register = λ key. register_on (instance_at Opt meaning link key) y new t.0 t.1;
           within = λ shut. within_items meaning link.key link.barrier all others asked y (map Value (item_values t.0)) shut s.within;
-        }) f in
-        record { after = k.after; stands = k.stands; steps = k.steps }
+        }) f
 
   -- all stages, one after another
   record GoesTo (world : World) (y : History) (handed : Handed) (stages : List WorldStage)
@@ -218,63 +192,16 @@ module _ (meaning : Meaning) (lawful : IsLawful meaning) (link : Link) (all othe
   starts world start started =
       let key : List ℕ = key_of (world 0) in
       let y : History = first_history_on start.values in
-      let first : MovedCell = moved.Live (cell_of (instance_at Opt meaning link key) y) in
-      let none : ℕ → Option MovedCell = λ at. None in
       record {
-        cells = changed_at none 0 (Some first);
+        cells = first_cells Opt meaning link world key y;
         long = start.first.spells.barrier;
         going = None;
-        order = record {
-          holds = each_changed (λ (other : ℕ) (held : Option MovedCell). HoldsCell Opt meaning link (world other) held) none 0
-              (Some first) (record { formed = start.first.spells; own = (refl, refl, refl); told = start.first.cell })
-              (λ other differs. start.others other differs);
-          placed = record {
-            at = 0;
-            key = key;
-            here = here_changed none 0 (Some first);
-            register = start.first.register;
-            only = λ other h. elim (from_changed IsLiveCell none 0 (Some first) other h) [
-              | inl here ↦ here.0
-              | inr there ↦ absurd there.1
-            ];
-          };
-          left = each_changed (λ (other : ℕ) (held : Option MovedCell). HasLeft
-              (LeftFor Opt meaning link (changed_at none 0 (Some first)) [] None y) held) none 0 (Some first) tt (λ other _. tt);
-          known = λ other nonce h.
-              elim (from_changed (λ (held : Option MovedCell). IsAwaited held nonce) none 0 (Some first) other h) [
-                | inl here ↦ absurd here.1
-                | inr there ↦ absurd there.1
-              ];
-          apart = λ one other nonce h k.
-              elim (from_changed (λ (held : Option MovedCell). IsAwaited held nonce) none 0 (Some first) one h) [
-                | inl here ↦ absurd here.1
-                | inr there ↦ absurd there.1
-              ];
-        };
+        order = first_order Opt meaning link world key y
+            (record { formed = start.first.spells; own = (refl, refl, refl); told = start.first.cell }) start.first.register start.others;
         within = opt_first_within meaning lawful link.key link.barrier start.values all others asked started;
         named = (opt_first_genuine meaning lawful key link.barrier start.values, tt);
         papers = tt;
       }
-
-  -- where the module is
-  module _ (world : World) (y : History) (handed : Handed) (s : Stands world y handed) where
-    is_live : (other : ℕ) → role_of (world other) ≡ Live → IsLiveCell (s.cells other)
-    is_live other role =
-        live_role (s.cells other)
-        (sym (role_held Opt meaning link (world other) (s.cells other) (s.order.holds other)) ∙ role)
-
-    somewhere : (going : Option (List ℕ)) → IsInOrder Opt meaning link world s.cells going y handed.nonces
-        → IsSomewhere Opt meaning link world y
-    somewhere (Some going) o = travels (λ other role. o.placed.none other (is_live other role))
-    somewhere None o =
-        let held : HoldsOwn Opt meaning link (world o.placed.at) (moved.Live (cell_of (instance_at Opt meaning link o.placed.key) y)) =
-        subst (λ (x : Option MovedCell). HoldsCell Opt meaning link (world o.placed.at) x) o.placed.here (o.holds o.placed.at) in
-        let key : key_of (world o.placed.at) ≡ o.placed.key =
-        key_held Opt meaning link (world o.placed.at) (moved.Live (cell_of (instance_at Opt meaning link o.placed.key) y)) held in
-        lives o.placed.at
-        (subst (λ (k : List ℕ). StandsFor (instance_at Opt meaning link k) (world o.placed.at) y) (sym key)
-        (record { spells = held.formed; cell = held.told; register = o.placed.register }))
-        (λ other differs role. differs (o.placed.only other (is_live other role)))
 
 pub opt_is_one : PartsAreRefusedElsewhere → OptWorldIsOne
 opt_is_one refuses meaning lawful link world stages f start told clear guarded honest =
@@ -291,7 +218,7 @@ opt_is_one refuses meaning lawful link world stages f start told clear guarded h
       follows = g.follows;
       history = g.after;
       holds = refl;
-      somewhere = somewhere meaning lawful link all others asked clear guarded refuses (world_at_end world stages) g.after
-          (handed_at_end Opt meaning link handed world stages f) g.stands g.stands.going g.stands.order;
+      somewhere = somewhere (laws meaning lawful link all others asked clear guarded refuses) (world_at_end world stages) g.after
+          (handed_at_end Opt meaning link handed world stages f) g.stands;
       named = g.stands.named;
     }
