@@ -7,7 +7,7 @@ ghost use Rattle.mm_at_work.specs.Lives.{LivesCheckpointed, LivesOnCopy, LivesWi
 use crate::calls::close_segment;
 use crate::sessions::{serve, start};
 use mm_base::{MemSink, MemSource};
-use mm_digest::Variant;
+use mm_digest::Variant::{Basic, Opt};
 use mm_host::SessionFault;
 use mm_life::{basic_life_is_one, device_calls_are_deeds, opt_life_is_one, sessions_offer_slots};
 use mm_module::Module;
@@ -63,27 +63,11 @@ pub fn live_on_copy<M: Module>(
     // Laws, which do nothing: the clauses rest on their contracts.
     basic_life_is_one();
     sessions_offer_slots();
-    match start(alloc, Variant::Basic, module, platform, store, entropy) {
+    match start(alloc, Basic, module, platform, store, entropy) {
         Err(fault) => Err(fault),
         Ok(()) => {
-            let first = serve(
-                alloc,
-                Variant::Basic,
-                module,
-                platform,
-                store,
-                first_input,
-                out,
-            );
-            let second = serve(
-                alloc,
-                Variant::Basic,
-                module,
-                platform,
-                copy,
-                second_input,
-                out,
-            );
+            let first = serve(alloc, Basic, module, platform, store, first_input, out);
+            let second = serve(alloc, Basic, module, platform, copy, second_input, out);
             Ok(TwoSessions { first, second })
         }
     }
@@ -112,30 +96,14 @@ pub fn live_without_power<M: Module>(
     basic_life_is_one();
     sessions_offer_slots();
     device_calls_are_deeds();
-    match start(alloc, Variant::Basic, module, platform, store, entropy) {
+    match start(alloc, Basic, module, platform, store, entropy) {
         Err(fault) => Err(TwoSessionsFault::Starting(fault)),
         Ok(()) => {
-            let first = serve(
-                alloc,
-                Variant::Basic,
-                module,
-                platform,
-                store,
-                first_input,
-                out,
-            );
+            let first = serve(alloc, Basic, module, platform, store, first_input, out);
             match platform.cycle() {
                 Err(fault) => Err(TwoSessionsFault::LosingPower(fault)),
                 Ok(()) => {
-                    let second = serve(
-                        alloc,
-                        Variant::Basic,
-                        module,
-                        platform,
-                        copy,
-                        second_input,
-                        out,
-                    );
+                    let second = serve(alloc, Basic, module, platform, copy, second_input, out);
                     Ok(TwoSessions { first, second })
                 }
             }
@@ -166,28 +134,12 @@ pub fn live_checkpointed<M: Module>(
     // Laws, which do nothing: the clauses rest on their contracts.
     opt_life_is_one();
     sessions_offer_slots();
-    match start(alloc, Variant::Opt, module, platform, store, entropy) {
+    match start(alloc, Opt, module, platform, store, entropy) {
         Err(fault) => Err(fault),
         Ok(()) => {
-            let first = serve(
-                alloc,
-                Variant::Opt,
-                module,
-                platform,
-                store,
-                first_input,
-                out,
-            );
+            let first = serve(alloc, Opt, module, platform, store, first_input, out);
             let said = close_segment(platform);
-            let second = serve(
-                alloc,
-                Variant::Opt,
-                module,
-                platform,
-                copy,
-                second_input,
-                out,
-            );
+            let second = serve(alloc, Opt, module, platform, copy, second_input, out);
             let sessions = TwoSessions { first, second };
             Ok(Checkpoint { sessions, said })
         }

@@ -1,13 +1,12 @@
 -- Clients who take turns over one honest store.
-use Rattle.std.specs.Prelude.{◌≡◌, ℕ, true, List, [], ◌∷◌, Some, length, ◌⊎◌}
-use Rattle.std.specs.List.{AllByRecursion}
+use Rattle.std.specs.Prelude.{◌≡◌, ℕ, List, [], ◌∷◌, Some, length, ◌⊎◌}
 use Rattle.std.proofs.Common.{inl, inr}
-use Rattle.mm_client.specs.Below.{Variant, Basic, Opt, Standing, IsLawful, IsUnbroken, Meaning, first_history, Instance, Batch, basic_instance}
-use Rattle.mm_client.specs.Below.{opt_instance, StandsFor, StoreStanding, AreNoChance, HasClash, IsGoneOnWith, IsLife, IsOverOneStore, LifePart}
-use Rattle.mm_client.specs.Below.{LifeStage, PartGoesOn, PartLeads, ServedCall, served_calls_of, Does, Holds, first_history_on, first_slots, life_batches}
-use Rattle.mm_client.specs.Below.{life_messages, opt_messages, others_values}
-use Rattle.mm_client.specs.ClientLife.{AreNoOthers, IsClientLife}
+use Rattle.mm_client.specs.Below.{Variant, Standing, Meaning, Instance, Batch}
+use Rattle.mm_client.specs.Below.{StoreStanding, IsGoneOnWith, IsLife, LifePart}
+use Rattle.mm_client.specs.Below.{LifeStage, PartGoesOn, PartLeads, ServedCall, served_calls_of, Does, Holds}
+use Rattle.mm_client.specs.ClientLife.{IsClientLife}
 use Rattle.mm_client.specs.Hearing.{ClientMemory, memory_at}
+use Rattle.mm_client.specs.Laws.{IsKeptInBasic, IsKeptInOpt}
 use Rattle.mm_client.specs.ServedOnce.{IsServedFrom}
 
 -- a session without a line told one reply, of this position
@@ -56,38 +55,9 @@ pub record IsServedByTurns (all others : List (List ℕ)) (asked : List Batch) (
       (t : IsTurn wanted i.variant i.meaning start stages f after)
       → IsServedInTurn all others asked i wanted start stages f after t [] gone.after
 
--- Basic: so it is of each turn of a life over one honest store.
+-- so it is of each turn of a life over one honest store
 abbrev pub BasicTurnsAreServedOnce : Type 0
-BasicTurnsAreServedOnce =
-    (meaning : Meaning) → IsLawful meaning → (key : List ℕ) (start : Standing)
-    (kept : StoreStanding) (stages : List LifeStage) (f : IsLife Basic meaning start stages)
-    (wanted : List (List ℕ)) →
-    StandsFor (basic_instance meaning key) start first_history →
-    kept.is_honest ≡ true → kept.slots ≡ Some (first_slots (basic_instance meaning key)) →
-    IsOverOneStore kept stages → AreNoChance Basic meaning start stages f →
-    AreNoOthers Basic meaning start stages f → AllByRecursion IsUnbroken wanted →
-    IsServedByTurns (life_messages (basic_instance meaning key) start stages f) []
-    (life_batches (basic_instance meaning key) start stages f) (basic_instance meaning key) kept
-    start stages f wanted
-    ⊎ HasClash (basic_instance meaning key)
-    (life_messages (basic_instance meaning key) start stages f) []
-    (life_batches (basic_instance meaning key) start stages f)
+BasicTurnsAreServedOnce = IsKeptInBasic IsServedByTurns
 
--- Opt, from a register that others had extended by these values: the same.
 abbrev pub OptTurnsAreServedOnce : Type 0
-OptTurnsAreServedOnce =
-    (meaning : Meaning) → IsLawful meaning → (key barrier : List ℕ) (values : List (List ℕ))
-    (start : Standing) (kept : StoreStanding) (stages : List LifeStage)
-    (f : IsLife Opt meaning start stages) (wanted : List (List ℕ)) →
-    StandsFor (opt_instance meaning key barrier) start (first_history_on values) →
-    kept.is_honest ≡ true → kept.slots ≡ Some (first_slots (opt_instance meaning key barrier)) →
-    IsOverOneStore kept stages → AreNoChance Opt meaning start stages f →
-    AreNoOthers Opt meaning start stages f → AllByRecursion IsUnbroken wanted →
-    IsServedByTurns (opt_messages (opt_instance meaning key barrier) start stages f)
-    (others_values (opt_instance meaning key barrier) start stages f)
-    (life_batches (opt_instance meaning key barrier) start stages f)
-    (opt_instance meaning key barrier) kept start stages f wanted
-    ⊎ HasClash (opt_instance meaning key barrier)
-    (opt_messages (opt_instance meaning key barrier) start stages f)
-    (others_values (opt_instance meaning key barrier) start stages f)
-    (life_batches (opt_instance meaning key barrier) start stages f)
+OptTurnsAreServedOnce = IsKeptInOpt IsServedByTurns

@@ -25,19 +25,6 @@ use Rattle.mm_killed.proofs.Stopping.{CallAnswers, CallFails, MayFail, killed_st
 abbrev pub IsUnplanned : Place → Type 0
 IsUnplanned at = at.standing.plan ≡ None
 
-same_at : (at : Place) → TellsSame at at
-same_at at = record {
-  cell = refl;
-  items = refl;
-  is_on = refl;
-  slots = refl;
-  is_honest = refl;
-  unsynced = refl;
-  left = refl;
-  entropy = refl;
-  received = refl;
-}
-
 same_along : (one two three : Place) → TellsSame one two → TellsSame two three → TellsSame one three
 same_along one two three a b = record {
   cell = a.cell ∙ b.cell;
@@ -145,12 +132,13 @@ keeps : (known : Option (List ℕ)) → Keeps known known
 keeps None = tt
 keeps (Some xs) = refl
 
--- the same but for counts of the platform, and but for those of the store
-same_but_counts : (at : Place) (steps writes cycles faults : ℕ)
+-- the same but for counts of the platform and of the store
+same_but_counts : (at : Place) (steps writes cycles faults stored : ℕ)
     → TellsSame (record at {
       standing = record at.standing { steps = steps; writes = writes; cycles = cycles; faults = faults };
+      kept = record at.kept { faults = stored };
     }) at
-same_but_counts at steps writes cycles faults = record {
+same_but_counts at steps writes cycles faults stored = record {
   cell = refl;
   items = refl;
   is_on = refl;
@@ -162,18 +150,8 @@ same_but_counts at steps writes cycles faults = record {
   received = refl;
 }
 
-same_but_faults : (at : Place) → TellsSame (record at { kept = failed_store at.kept }) at
-same_but_faults at = record {
-  cell = refl;
-  items = refl;
-  is_on = refl;
-  slots = refl;
-  is_honest = refl;
-  unsynced = refl;
-  left = refl;
-  entropy = refl;
-  received = refl;
-}
+same_at : (at : Place) → TellsSame at at
+same_at at = same_but_counts at _ _ _ _ _
 
 -- what a call of a host's devices that fails leaves
 abbrev pub Fails : DeviceCall → Place → Type 0
@@ -185,14 +163,14 @@ fails (Steps act) at none = record {
   answer = OfPlatform (Err Off);
   goes = (refl, (step_fails act at.standing none, tt));
   holds = none;
-  same = same_but_counts at _ _ _ _;
+  same = same_but_counts at _ _ _ _ _;
 }
 fails Cycles at none = record {
   new = record at { standing = record at.standing { cycles = next_count at.standing.cycles; faults = next_count at.standing.faults } };
   answer = OfPlatform (Err Off);
   goes = (refl, cycle_fails at.standing none);
   holds = none;
-  same = same_but_counts at _ _ _ _;
+  same = same_but_counts at _ _ _ _ _;
 }
 fails Readies at none = record { new = at; answer = OfMemory false; goes = refl; holds = none; same = same_at at }
 fails (Reads slot) at none = record {
@@ -200,14 +178,14 @@ fails (Reads slot) at none = record {
   answer = OfStore (Err Failed);
   goes = (refl, read_fails slot at.kept);
   holds = none;
-  same = same_but_faults at;
+  same = same_but_counts at _ _ _ _ _;
 }
 fails (Writes slot bytes) at none = record {
   new = record at { kept = failed_store at.kept };
   answer = OfStore (Err Failed);
   goes = (refl, write_fails slot bytes at.kept);
   holds = none;
-  same = same_but_faults at;
+  same = same_but_counts at _ _ _ _ _;
 }
 fails (TakesInput room) at none =
     record { new = at; answer = OfInput None; goes = (refl, keeps at.left); holds = none; same = same_at at }

@@ -8,7 +8,7 @@ ghost use Rattle.mm_life.specs.OneStore.{LivesOnOneStore, LivesOverCheckpoint, l
 use crate::honest::{basic_life_goes_on, opt_life_goes_on};
 use crate::laws::{device_calls_are_deeds, lives_write_once};
 use mm_base::{Sink, Source};
-use mm_digest::Variant;
+use mm_digest::Variant::{Basic, Opt};
 use mm_host::{InitFault, SessionFault, init, session};
 use mm_module::Module;
 use mm_opt::{CheckpointRefusal, Checkpointed, checkpoint};
@@ -64,30 +64,14 @@ pub fn live_on_one_store<M: Module, P: Platform, T: Store, E: Source, S: Source,
     basic_life_goes_on();
     device_calls_are_deeds();
     lives_write_once();
-    match init(alloc, Variant::Basic, module, platform, store, entropy) {
+    match init(alloc, Basic, module, platform, store, entropy) {
         Err(fault) => Err(BothSessionsFault::Starting(fault)),
         Ok(()) => {
-            let first = session(
-                alloc,
-                Variant::Basic,
-                module,
-                platform,
-                store,
-                first_input,
-                out,
-            );
+            let first = session(alloc, Basic, module, platform, store, first_input, out);
             match platform.cycle() {
                 Err(fault) => Err(BothSessionsFault::LosingPower(fault)),
                 Ok(()) => {
-                    let second = session(
-                        alloc,
-                        Variant::Basic,
-                        module,
-                        platform,
-                        store,
-                        second_input,
-                        out,
-                    );
+                    let second = session(alloc, Basic, module, platform, store, second_input, out);
                     Ok(BothSessions { first, second })
                 }
             }
@@ -119,31 +103,15 @@ pub fn live_over_checkpoint<M: Module, P: Platform, T: Store, E: Source, S: Sour
     opt_life_goes_on();
     device_calls_are_deeds();
     lives_write_once();
-    match init(alloc, Variant::Opt, module, platform, store, entropy) {
+    match init(alloc, Opt, module, platform, store, entropy) {
         Err(fault) => Err(BothSessionsFault::Starting(fault)),
         Ok(()) => {
-            let first = session(
-                alloc,
-                Variant::Opt,
-                module,
-                platform,
-                store,
-                first_input,
-                out,
-            );
+            let first = session(alloc, Opt, module, platform, store, first_input, out);
             let said = checkpoint(platform);
             match platform.cycle() {
                 Err(fault) => Err(BothSessionsFault::LosingPower(fault)),
                 Ok(()) => {
-                    let second = session(
-                        alloc,
-                        Variant::Opt,
-                        module,
-                        platform,
-                        store,
-                        second_input,
-                        out,
-                    );
+                    let second = session(alloc, Opt, module, platform, store, second_input, out);
                     Ok(CheckedSessions {
                         first,
                         checkpoint: said,

@@ -19,7 +19,7 @@ use Rattle.mm_recovery.specs.declared.fault.HostFault.{HostFault}
 use Rattle.mm_recovery.specs.declared.fault.HostFault.TheVariants.{Store}
 use Rattle.mm_host.specs.Continuation.{first_served_call}
 use Rattle.mm_host.specs.SessionStanding.{SessionStanding, host_of}
-use Rattle.mm_host.specs.Sessions.{BytesBeginWith, IsSession, ServedCall, ServesAllLines, SessionGoesAfterResume, SessionGoesOn, SessionPlace}
+use Rattle.mm_host.specs.Sessions.{BytesBeginWith, IsSession, ServedCall, ServesAllLines, SessionGoesAfterResume, SessionGoesOn, SessionPlace, TurnGoes}
 use Rattle.mm_host.specs.Sessions.{reply_text, served_lines}
 use Rattle.mm_host.specs.declared.fault.SessionFault.{SessionFault}
 use Rattle.mm_host.specs.declared.fault.SessionFault.TheVariants.{Host, Lines}
@@ -162,6 +162,23 @@ module _ (variant : Variant) (meaning : Meaning) (lawful : IsLawful meaning) (ol
       stored = stored;
     }
 
+    -- the lines that it served, and how the last one ended
+    abbrev lines_by : (m : Moment) (host : HostStanding) (sent : List ℕ) (left : Option (List ℕ))
+        (t : LinesStop variant meaning 1 start s.taken m host sent) (fault : SessionFault)
+        → TurnGoes variant meaning (length t.calls + 1) t.at host left t.more [] t.last (Err fault)
+        → ServesAllLines variant meaning 1 start host left (joined_lines (served_lines t.calls) ++ t.more) (m.sent ++ sent) (Err fault)
+    lines_by m host sent left t fault ends = record {
+      calls = t.calls;
+      few = t.few;
+      at = t.at;
+      serves = t.serves;
+      more = t.more;
+      last = t.last;
+      took = refl;
+      wrote = t.wrote;
+      ends = ends;
+    }
+
     by_end : (m : Moment) (host : HostStanding) (sent : List ℕ) (received left : Option (List ℕ))
         (t : LinesStop variant meaning 1 start s.taken m host sent)
         → Appends old.received received ((reply_text s.begun ++ m.sent) ++ sent)
@@ -169,59 +186,33 @@ module _ (variant : Variant) (meaning : Meaning) (lawful : IsLawful meaning) (ol
         → LineEnd variant meaning (length t.calls + 1) t.at m host t.more t.last
         → SessionStops variant meaning old host received (behind before (reply_text s.begun) m) (first_bytes s)
     by_end m host sent received left t a consumed (rests still none silent untold) =
-        stopped m host sent received left (joined_lines (served_lines t.calls) ++ t.more) (Lines replay.ReadFault) a consumed (record {
-          calls = t.calls;
-          few = t.few;
-          at = t.at;
-          serves = t.serves;
-          more = t.more;
-          last = t.last;
-          took = refl;
-          wrote = t.wrote;
-          ends = (record { still = still; nothing = silent }, rw none no_line);
-        }) t.told (sym untold) (λ request held b. absurd (no_bytes request held (sym none ∙ b.cut))) (λ is. absurd (cc))
+        stopped m host sent received left _ (Lines replay.ReadFault) a consumed
+        (lines_by m host sent left t (Lines replay.ReadFault) (record { still = still; nothing = silent }, rw none no_line)) t.told
+        (sym untold) (λ request held b. absurd (no_bytes request held (sym none ∙ b.cut))) (λ is. absurd (cc))
     by_end m host sent received left t a consumed (fails line is within few why asks says untold hand stored) =
-        stopped m host sent received left (joined_lines (served_lines t.calls) ++ t.more) (Host why) a consumed (record {
-          calls = t.calls;
-          few = t.few;
-          at = t.at;
-          serves = t.serves;
-          more = t.more;
-          last = t.last;
-          took = refl;
-          wrote = t.wrote;
-          ends = record {
-            line = line;
-            held = [];
-            begins = record { cut = is; within = within };
-            few = few;
-            came = Err why;
-            asks = asks;
-            says = inl (says, refl);
-          };
-        }) t.told untold
+        stopped m host sent received left _ (Host why) a consumed
+        (lines_by m host sent left t (Host why) (record {
+          line = line;
+          held = [];
+          begins = record { cut = is; within = within };
+          few = few;
+          came = Err why;
+          asks = asks;
+          says = inl (says, refl);
+        })) t.told untold
         (λ request held b. hand ∙ ap (λ (x : List ℕ). Some x) (one_line line request held within b.within (sym is ∙ b.cut)))
         (λ e. stored (host_store why e))
     by_end m host sent received left t a consumed (cuts line is within few came asks says untold hand) =
-        stopped m host sent received left (joined_lines (served_lines t.calls) ++ t.more) (Lines replay.WriteFault) a consumed (record {
-          calls = t.calls;
-          few = t.few;
-          at = t.at;
-          serves = t.serves;
-          more = t.more;
-          last = t.last;
-          took = refl;
-          wrote = t.wrote;
-          ends = record {
-            line = line;
-            held = [];
-            begins = record { cut = is; within = within };
-            few = few;
-            came = came;
-            asks = asks;
-            says = says;
-          };
-        }) t.told untold
+        stopped m host sent received left _ (Lines replay.WriteFault) a consumed
+        (lines_by m host sent left t (Lines replay.WriteFault) (record {
+          line = line;
+          held = [];
+          begins = record { cut = is; within = within };
+          few = few;
+          came = came;
+          asks = asks;
+          says = says;
+        })) t.told untold
         (λ request held b. hand ∙ ap (λ (x : List ℕ). Some x) (one_line line request held within b.within (sym is ∙ b.cut)))
         (λ e. absurd (cc))
 

@@ -33,12 +33,12 @@ pub read_done : {A : Type 0} (finds : List ℕ → Result (ReadyMove A) MoveRefu
 read_done finds old middle new bytes found result r f w = done_by finds old middle new bytes found result r.fault r.goes r.gives f w
 
 -- what a move leaves and counts
-record Keeps {A : Type 0} (old new : Standing) (result : Result A MoveRefusal) : Type 0 where
+pub record Keeps {A : Type 0} (old new : Standing) (result : Result A MoveRefusal) : Type 0 where
   pub untouched : move_fault_in result ≡ None → IsErr result → IsUntouched old new
   pub faults : CountsHandedFault (move_fault_in result) old.faults new.faults
   pub steps : MoveStepsBy result old new
 
-keeps_failed : {A : Type 0} (old new : Standing) (fault : StepFault) (result : Result A MoveRefusal)
+pub keeps_failed : {A : Type 0} (old new : Standing) (fault : StepFault) (result : Result A MoveRefusal)
     → StepGoes ReadCell old new (Some fault)
     → result ≡ Err (Core (Device fault)) → Keeps old new result
 keeps_failed {A} old new fault result g e = subst (λ (r : Result A MoveRefusal). Keeps old new r) (sym e) (record {
@@ -86,13 +86,13 @@ keeps_made {A} old middle new None answer result g m =
     subst (λ (s : Standing). Keeps old s result) (sym m.0) (keeps_answered old middle answer result g m.1)
 keeps_made {A} old middle new (Some next) answer result g m = keeps_written old middle new next answer result m.fault g m.goes m.gives
 
-keeps_on : {A : Type 0} (old middle new : Standing) (found : Result (ReadyMove A) MoveRefusal) (result : Result A MoveRefusal)
+pub keeps_on : {A : Type 0} (old middle new : Standing) (found : Result (ReadyMove A) MoveRefusal) (result : Result A MoveRefusal)
     → StepGoes ReadCell old middle None → move_fault_in found ≡ None → MoveGoesOn found middle new result → Keeps old new result
 keeps_on {A} old middle new (Err why) result g h w =
     subst (λ (s : Standing). Keeps old s result) (sym w.0) (keeps_refused old middle why result g h w.1)
 keeps_on old middle new (Ok ready) result g h w = keeps_made old middle new ready.next ready.answer result g w
 
-no_fault_or : {A : Type 0} (finds found : Result A MoveRefusal) → move_fault_in finds ≡ None → IsOrNoMemory finds found
+pub no_fault_or : {A : Type 0} (finds found : Result A MoveRefusal) → move_fault_in finds ≡ None → IsOrNoMemory finds found
     → move_fault_in found ≡ None
 no_fault_or {A} (Err why) found h o = ap (λ (r : Result A MoveRefusal). move_fault_in r) o ∙ h
 no_fault_or {A} (Ok it) found h (inl e) = ap (λ (r : Result A MoveRefusal). move_fault_in r) e

@@ -102,7 +102,7 @@ wanted (Err Memory) e = refl
 wanted _ e = absurd (cc)
 
 -- the front ones of the steps were made, too
-front_made : (stood : ℕ → Standing) (front rest : List MadeStep) → AreMade stood (front ++ rest)
+pub front_made : (stood : ℕ → Standing) (front rest : List MadeStep) → AreMade stood (front ++ rest)
     → AreMade (λ left. stood (left + length rest)) front
 front_made stood [] rest m = tt
 front_made stood (it ∷ front) rest m =

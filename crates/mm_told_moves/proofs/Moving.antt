@@ -1,23 +1,22 @@
 -- A move that was told by the steps that were made is the move over the host's platform.
-use Rattle.std.proofs.Common.{◌≡◌, ◌∙◌, ℕ, suc, ◌+◌, ◌<◌, Bool, true, false, List, [], ◌∷◌, ◌++◌, length, length-append, zero-add, refl, sym, ap, subst, inl, inr, arith}
-use Rattle.std.specs.Prelude.{IsErr, Option, None, Some, Result, Ok, Err}
-use Rattle.mm_bytes.specs.Faults.{next_count}
+use Rattle.std.proofs.Common.{◌≡◌, ◌∙◌, ℕ, suc, ◌+◌, ◌<◌, true, false, List, [], ◌∷◌, ◌++◌, length, length-append, zero-add, refl, sym, ap, subst, inl, inr, arith}
+use Rattle.std.specs.Prelude.{Option, None, Some, Result, Ok, Err}
 use Rattle.mm_bytes.specs.Limits.{cell_length}
 use Rattle.mm_platform.specs.Standing.{Standing}
-use Rattle.mm_platform.specs.Steps.{Act, DeviceStepEnds, ReadCell, StepGoes, WriteCell}
+use Rattle.mm_platform.specs.Steps.{Act, ReadCell, StepGoes, WriteCell}
 use Rattle.mm_platform.specs.declared.fault.StepFault.{StepFault}
-use Rattle.mm_platform.specs.declared.fault.StepFault.TheVariants.{Failed, Off}
+use Rattle.mm_platform.specs.declared.fault.StepFault.TheVariants.{Off}
 use Rattle.mm_model.specs.declared.refusal.Refusal.TheVariants.{Device, Memory}
-use Rattle.mm_call.specs.Untouched.{CountsHandedFault, IsUntouched}
-use Rattle.mm_call.specs.UntouchedLaws.{read_untouched, blamed, blamed_later}
-use Rattle.mm_move.specs.Moves.{MakesMoveStep, MoveGoesOn, MovePromise, MoveStepsBy, MoveStepsRefused, move_answer}
-use Rattle.mm_move.specs.Refusals.{IsOrNoMemory, move_fault_in, move_fault_of}
+use Rattle.mm_move.specs.Moves.{MakesMoveStep, MoveGoesOn, MovePromise}
+use Rattle.mm_move.specs.Refusals.{IsOrNoMemory, move_fault_in}
 use Rattle.mm_move.specs.declared.ready.ReadyMove.{ReadyMove}
 use Rattle.mm_move.specs.declared.refusal.MoveRefusal.{MoveRefusal}
 use Rattle.mm_move.specs.declared.refusal.MoveRefusal.TheVariants.{Core}
+use Rattle.mm_move.proofs.Above.{keeps_failed, keeps_on, no_fault_or}
+use Rattle.mm_told.proofs.Above.{front_made, goes_bare}
 use Rattle.mm_told.specs.CallProtocol.{AreAsTold, StepsDiffer, TellsOutcome}
 use Rattle.mm_told.specs.Host.{AreMade, Host, IsHostOf, bare_standing}
-use Rattle.mm_told.specs.Steps.{IsMade, act_of, fault_of_answer, made_act}
+use Rattle.mm_told.specs.Steps.{act_of, fault_of_answer, made_act}
 use Rattle.mm_told.specs.declared.outcome.StepsOutcome.{StepsOutcome}
 use Rattle.mm_told.specs.declared.outcome.StepsOutcome.TheVariants as outcome
 use Rattle.mm_told.specs.declared.step.MadeStep.{MadeStep}
@@ -25,107 +24,6 @@ use Rattle.mm_told.specs.declared.step.MadeStep.TheVariants as made
 use Rattle.mm_told_moves.specs.Findings.{wants_memory}
 use Rattle.mm_told_moves.specs.MoveProtocol.{FindingEndsWith, FindingMakesNext, MoveEndsWith, MoveMakesNext, ReadyEndsWith, move_protocol}
 use Rattle.mm_told_moves.specs.ToldMovePromise.{IsMoveOnHost, MoveLacksOnHost, ToldMovePromise}
-
--- What a move leaves and counts.
-record LeavesAndCounts {A : Type 0} (old new : Standing) (result : Result A MoveRefusal) : Type 0 where
-  pub untouched : move_fault_in result ≡ None → IsErr result → IsUntouched old new
-  pub faults : CountsHandedFault (move_fault_in result) old.faults new.faults
-  pub steps : MoveStepsBy result old new
-
-leaves_failed : {A : Type 0} (old new : Standing) (fault : StepFault) (result : Result A MoveRefusal)
-    → StepGoes ReadCell old new (Some fault) → result ≡ Err (Core (Device fault)) → LeavesAndCounts old new result
-leaves_failed {A} old new fault result g e = subst (λ (r : Result A MoveRefusal). LeavesAndCounts old new r) (sym e) (record {
-  untouched = λ h _. absurd (cc);
-  faults = blamed (Some fault) old new g.is_made g.ends;
-  steps = inl (g.steps, g.writes);
-})
-
-leaves_refused : {A : Type 0} (old new : Standing) (why : MoveRefusal) (result : Result A MoveRefusal) → StepGoes ReadCell old new None
-    → move_fault_of why ≡ None → result ≡ Err why → LeavesAndCounts old new result
-leaves_refused {A} old new why result g h e = subst (λ (r : Result A MoveRefusal). LeavesAndCounts old new r) (sym e) (record {
-  untouched = λ _ _. read_untouched old new g;
-  faults = subst (λ (f : Option StepFault). CountsHandedFault f old.faults new.faults) (sym h) g.ends.faults;
-  steps = subst (λ (f : Option StepFault). MoveStepsRefused f old new) (sym h) (g.steps, g.writes);
-})
-
-leaves_answered : {A : Type 0} (old new : Standing) (answer : A) (result : Result A MoveRefusal) → StepGoes ReadCell old new None
-    → result ≡ Ok answer → LeavesAndCounts old new result
-leaves_answered {A} old new answer result g e = subst (λ (r : Result A MoveRefusal). LeavesAndCounts old new r) (sym e) (record {
-  untouched = λ _ (is : false ≡ true). absurd (cc);
-  faults = g.ends.faults;
-  steps = inl (g.steps, g.writes);
-})
-
-leaves_written : {A : Type 0} (old middle new : Standing) (next : List ℕ) (answer : A) (result : Result A MoveRefusal)
-    (fault : Option StepFault) → StepGoes ReadCell old middle None → StepGoes (WriteCell next) middle new fault
-    → result ≡ move_answer answer fault → LeavesAndCounts old new result
-leaves_written {A} old middle new next answer result None g w e =
-    subst (λ (r : Result A MoveRefusal). LeavesAndCounts old new r) (sym e) (record {
-      untouched = λ _ (is : false ≡ true). absurd (cc);
-      faults = w.ends.faults ∙ g.ends.faults;
-      steps = inr (w.steps ∙ ap next_count g.steps, w.writes ∙ ap next_count g.writes);
-    })
-leaves_written {A} old middle new next answer result (Some fault) g w e =
-    subst (λ (r : Result A MoveRefusal). LeavesAndCounts old new r) (sym e) (record {
-      untouched = λ h _. absurd (cc);
-      faults = blamed_later (Some fault) old.faults middle.faults new.faults g.ends.faults
-          (blamed (Some fault) middle new w.is_made w.ends);
-      steps = inr (w.steps ∙ ap next_count g.steps, w.writes ∙ ap next_count g.writes);
-    })
-
-leaves_made : {A : Type 0} (old middle new : Standing) (next : Option (List ℕ)) (answer : A) (result : Result A MoveRefusal)
-    → StepGoes ReadCell old middle None → MakesMoveStep next answer middle new result → LeavesAndCounts old new result
-leaves_made {A} old middle new None answer result g m =
-    subst (λ (s : Standing). LeavesAndCounts old s result) (sym m.0) (leaves_answered old middle answer result g m.1)
-leaves_made {A} old middle new (Some next) answer result g m = leaves_written old middle new next answer result m.fault g m.goes m.gives
-
-leaves_on : {A : Type 0} (old middle new : Standing) (found : Result (ReadyMove A) MoveRefusal) (result : Result A MoveRefusal)
-    → StepGoes ReadCell old middle None → move_fault_in found ≡ None → MoveGoesOn found middle new result
-    → LeavesAndCounts old new result
-leaves_on {A} old middle new (Err why) result g h w =
-    subst (λ (s : Standing). LeavesAndCounts old s result) (sym w.0) (leaves_refused old middle why result g h w.1)
-leaves_on old middle new (Ok ready) result g h w = leaves_made old middle new ready.next ready.answer result g w
-
-faultless_or : {A : Type 0} (finds found : Result A MoveRefusal) → move_fault_in finds ≡ None → IsOrNoMemory finds found
-    → move_fault_in found ≡ None
-faultless_or {A} (Err why) found h o = ap (λ (r : Result A MoveRefusal). move_fault_in r) o ∙ h
-faultless_or {A} (Ok it) found h (inl e) = ap (λ (r : Result A MoveRefusal). move_fault_in r) e
-faultless_or {A} (Ok it) found h (inr e) = ap (λ (r : Result A MoveRefusal). move_fault_in r) e
-
--- as hardware shows it
-ends_bare : (fault : Option StepFault) (old new : Standing) (made : Bool) → DeviceStepEnds fault old new made
-    → DeviceStepEnds fault (bare_standing old) (bare_standing new) made
-ends_bare None old new made e = record { made = e.made; was_on = e.was_on; is_on = e.is_on; faults = e.faults }
-ends_bare (Some Failed) old new made e = record { was_on = e.was_on; is_on = e.is_on; faults = e.faults }
-ends_bare (Some Off) old new made e = record { faults = e.faults; still = e.still }
-
-goes_bare : (act : Act) (old new : Standing) (fault : Option StepFault) → StepGoes act old new fault
-    → StepGoes act (bare_standing old) (bare_standing new) fault
-goes_bare act old new fault a = record {
-  is_made = a.is_made;
-  others = a.others;
-  cell = a.cell;
-  items = a.items;
-  steps = a.steps;
-  writes = a.writes;
-  cycles = a.cycles;
-  room = omega arith;
-  plan = refl;
-  ends = ends_bare fault old new a.is_made a.ends;
-  told = λ plan told. absurd (cc);
-}
-
--- the front ones of the steps were made, too
-front_made : (stood : ℕ → Standing) (front rest : List MadeStep) → AreMade stood (front ++ rest)
-    → AreMade (λ left. stood (left + length rest)) front
-front_made stood [] rest m = tt
-front_made stood (it ∷ front) rest m =
-    let here : length (front ++ rest) ≡ length front + length rest = length-append front rest in
-    let before : suc (length (front ++ rest)) ≡ suc (length front) + length rest = omega (arith, here) in (
-      subst (λ (n : ℕ). IsMade it (stood n) (stood (length front + length rest))) before
-          (subst (λ (n : ℕ). IsMade it (stood (suc (length (front ++ rest)))) (stood n)) here m.0),
-      front_made stood front rest m.1,
-    )
 
 abbrev IsCellOf : Standing → List ℕ → Type 0
 IsCellOf old bytes = (cell : List ℕ) → old.cell ≡ Some cell → bytes ≡ cell
@@ -140,7 +38,7 @@ module _ {A : Type 0} (finds : List ℕ → Result (ReadyMove A) MoveRefusal) (f
       → StepGoes ReadCell old middle None → IsOrNoMemory (finds bytes) found → MoveGoesOn found middle new result
       → MovePromise finds old new result
   behind old middle new bytes found result size told g f w =
-      let k = leaves_on old middle new found result g (faultless_or (finds bytes) found (faultless bytes) f) w in record {
+      let k = keeps_on old middle new found result g (no_fault_or (finds bytes) found (faultless bytes) f) w in record {
         moves = record {
           middle = middle;
           fault = None;
@@ -155,7 +53,7 @@ module _ {A : Type 0} (finds : List ℕ → Result (ReadyMove A) MoveRefusal) (f
   failed : (old new : Standing) (fault : StepFault) (result : Result A MoveRefusal) → StepGoes ReadCell old new (Some fault)
       → result ≡ Err (Core (Device fault)) → MovePromise finds old new result
   failed old new fault result g e =
-      let k = leaves_failed old new fault result g e in record {
+      let k = keeps_failed old new fault result g e in record {
         moves = record { middle = new; fault = Some fault; reads = g; after = (refl, e) };
         untouched = k.untouched;
         faults = k.faults;
