@@ -6,4 +6,3 @@ returns-in-Ok-Differs-clause-tells c = search rules
 
 pub returns-in-Ok-Next-clause-tells : goal.returns-in-Ok-Next-clause-tells
 returns-in-Ok-Next-clause-tells c = search rules
-
