@@ -5,7 +5,7 @@ use mm_move::MoveRefusal;
 use mm_opt::CheckpointRefusal;
 
 /// What a call says.
-#[derive(Clone, Copy, Debug)]
+#[derive(Clone, Copy)]
 pub enum ReturnStatus {
     /// It is done, and everything is written.
     Done,

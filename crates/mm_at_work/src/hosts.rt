@@ -22,7 +22,7 @@ use mm_twocell::{MemRaw, TwoCell};
 use std::alloc::Global;
 
 /// A command that goes on with an instance.
-#[derive(Clone, Copy, Debug, PartialEq, Eq)]
+#[derive(Clone, Copy, PartialEq, Eq)]
 pub enum Verb {
     Run,
     Checkpoint,
@@ -30,7 +30,7 @@ pub enum Verb {
 }
 
 /// What a host hands a command, besides the platform.
-#[derive(Debug, Drop)]
+#[derive(Drop)]
 pub struct HandedObjects<T, S, E, K> {
     pub store: T,
     pub input: S,

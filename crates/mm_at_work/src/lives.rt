@@ -19,21 +19,21 @@ use mm_twocell::{MemRaw, TwoCell};
 use std::alloc::Global;
 
 /// How two sessions ended.
-#[derive(Debug, Drop)]
+#[derive(Drop)]
 pub struct TwoSessions {
     pub first: Result<(), SessionFault>,
     pub second: Result<(), SessionFault>,
 }
 
 /// How two sessions ended, and what the checkpoint between them said.
-#[derive(Debug, Drop)]
+#[derive(Drop)]
 pub struct Checkpoint {
     pub sessions: TwoSessions,
     pub said: Result<Checkpointed, CheckpointRefusal>,
 }
 
 /// Why there weren't two sessions.
-#[derive(Clone, Copy, Debug, PartialEq, Eq)]
+#[derive(Clone, Copy, PartialEq, Eq)]
 pub enum TwoSessionsFault {
     /// The first start failed.
     Starting(InitFault),

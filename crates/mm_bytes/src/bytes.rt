@@ -7,7 +7,7 @@ use std::alloc::Global;
 use std::marker::Model;
 
 /// A list of bytes, which contracts see as that list.
-#[derive(Debug, Drop)]
+#[derive(Drop)]
 pub struct Bytes {
     items: Vec<u8>,
 }

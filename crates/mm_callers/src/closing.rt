@@ -11,14 +11,14 @@ use mm_platform::Platform;
 use std::alloc::Global;
 
 /// What a request was answered, and what it was answered once more.
-#[derive(Debug, Drop)]
+#[derive(Drop)]
 pub struct Replies {
     pub first: Answer,
     pub second: Answer,
 }
 
 /// Why there aren't two replies.
-#[derive(Clone, Copy, Debug, PartialEq, Eq)]
+#[derive(Clone, Copy, PartialEq, Eq)]
 pub enum RepeatRefusal {
     /// One of the two calls was refused.
     Asking(Refusal),

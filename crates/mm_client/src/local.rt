@@ -27,7 +27,7 @@ const LINE_ROOM: usize = 4200;
 
 /// What a connection lets through: so many of the first bytes that a client gives, and so many of
 /// the first that are sent to him.
-#[derive(Clone, Copy, Debug, PartialEq, Eq)]
+#[derive(Clone, Copy, PartialEq, Eq)]
 pub struct Carried {
     pub given: usize,
     pub heard: usize,
@@ -78,7 +78,7 @@ impl<M: Module, P: Platform, T: Store, C: Connection> Service for LocalProgram<M
 }
 
 /// Why a client wasn't served by a program of his.
-#[derive(Clone, Copy, Debug, PartialEq, Eq)]
+#[derive(Clone, Copy, PartialEq, Eq)]
 pub enum LocalFault {
     /// The first start failed.
     Starting(InitFault),

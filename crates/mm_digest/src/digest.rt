@@ -9,7 +9,7 @@ use crate::variant::Variant;
 use sha2::{Digest as _, Sha256};
 
 /// 32 bytes: a SHA-256 digest, or the zero that stands for "nothing yet".
-#[derive(Clone, Copy, PartialEq, Eq, Debug)]
+#[derive(Clone, Copy, PartialEq, Eq)]
 pub struct Digest {
     pub bytes: [u8; 32],
 }

@@ -3,7 +3,7 @@
 use std::cell::Cell;
 
 /// What the call at which a program is killed leaves of its effect.
-#[derive(Clone, Copy, Debug, PartialEq, Eq)]
+#[derive(Clone, Copy, PartialEq, Eq)]
 pub enum Leaves {
     Nothing,
     Half,

@@ -17,14 +17,14 @@ use mm_store::Store;
 use std::alloc::Global;
 
 /// How two sessions ended.
-#[derive(Debug, Drop)]
+#[derive(Drop)]
 pub struct BothSessions {
     pub first: Result<(), SessionFault>,
     pub second: Result<(), SessionFault>,
 }
 
 /// How two sessions ended, and what the checkpoint between them said.
-#[derive(Debug, Drop)]
+#[derive(Drop)]
 pub struct CheckedSessions {
     pub first: Result<(), SessionFault>,
     pub checkpoint: Result<Checkpointed, CheckpointRefusal>,
@@ -32,7 +32,7 @@ pub struct CheckedSessions {
 }
 
 /// Why there weren't two sessions.
-#[derive(Clone, Copy, Debug, PartialEq, Eq)]
+#[derive(Clone, Copy, PartialEq, Eq)]
 pub enum BothSessionsFault {
     /// The first start failed.
     Starting(InitFault),

@@ -6,7 +6,7 @@ use mm_bytes::Bytes;
 use mm_module::Outputs;
 
 /// The answer to one request.
-#[derive(Debug, Drop)]
+#[derive(Drop)]
 pub struct Answer {
     /// Whether the request had been committed before.
     pub again: bool,

@@ -1,7 +1,7 @@
 //! What is said of an offer.
 
 /// What is said of an offered snapshot and the batch that is asked of it.
-#[derive(Clone, Copy, Debug, PartialEq, Eq)]
+#[derive(Clone, Copy, PartialEq, Eq)]
 pub enum Verdict {
     /// The snapshot is the newest: the batch is run and committed.
     Fresh,

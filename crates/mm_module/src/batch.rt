@@ -5,7 +5,7 @@ ghost use Rattle.mm_module.specs.Batch.{members_of, size_of, batch_text};
 ghost use Rattle.mm_module.specs.Batches.{batch_of};
 
 /// Requests under one commit.
-#[derive(Clone, Copy, Debug)]
+#[derive(Clone, Copy)]
 pub enum Batch<'a> {
     /// One request.
     One(&'a [u8]),

@@ -15,7 +15,7 @@ use std::alloc::Global;
 ///
 /// `read` says the value. `add N` adds N and says the new value, or says `full` where that is over
 /// 18446744073709551615 and leaves the value. Anything else says `bad` and leaves the value.
-#[derive(Clone, Copy, Debug, PartialEq, Eq)]
+#[derive(Clone, Copy, PartialEq, Eq)]
 pub struct Counter;
 
 /// A request to a counter.

@@ -7,7 +7,7 @@ use mm_bytes::{Bytes, LONGEST_REQUEST, Memory};
 use std::alloc::Global;
 
 /// What one request gave: the state after it, and what the module says.
-#[derive(Debug, Drop)]
+#[derive(Drop)]
 pub struct Stepped {
     /// The state after the request.
     pub state: Bytes,

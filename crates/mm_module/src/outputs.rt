@@ -8,7 +8,7 @@ use std::marker::Model;
 use std::mem;
 
 /// Outputs: one, which takes no memory besides its own, or a list.
-#[derive(Debug, Drop)]
+#[derive(Drop)]
 enum OutputItems {
     One(Bytes),
     Many(Vec<Bytes>),

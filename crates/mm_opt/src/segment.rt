@@ -5,7 +5,7 @@ use mm_seal::Cell;
 use thiserror::Error;
 
 /// What a checkpoint did.
-#[derive(Clone, Copy, Debug, PartialEq, Eq)]
+#[derive(Clone, Copy, PartialEq, Eq)]
 pub enum Checkpointed {
     /// The open segment is closed.
     Done,

@@ -3,14 +3,14 @@
 use mm_digest::Digest;
 
 /// Others extend the register by this value just before the step with this number, counted from 1.
-#[derive(Clone, Copy, Debug, PartialEq, Eq)]
+#[derive(Clone, Copy, PartialEq, Eq)]
 pub struct Meddle {
     pub step: u8,
     pub value: Digest,
 }
 
 /// What goes wrong, and at which step, counted from 1.
-#[derive(Clone, Copy, Debug, PartialEq, Eq)]
+#[derive(Clone, Copy, PartialEq, Eq)]
 pub enum Stop {
     /// Nothing.
     Quiet,

@@ -11,7 +11,7 @@ use mm_bytes::{Bytes, Memory};
 use std::alloc::Global;
 
 /// Why a player refuses a line.
-#[derive(Clone, Copy, Debug, PartialEq, Eq)]
+#[derive(Clone, Copy, PartialEq, Eq)]
 pub enum LineRefusal {
     /// The line is outside the grammar.
     Bad,
@@ -20,7 +20,7 @@ pub enum LineRefusal {
 }
 
 /// Why a player did not answer a line.
-#[derive(Clone, Copy, Debug, PartialEq, Eq)]
+#[derive(Clone, Copy, PartialEq, Eq)]
 pub enum ReplyFault {
     /// Want of memory.
     Memory,

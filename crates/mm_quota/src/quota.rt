@@ -20,7 +20,7 @@ use std::alloc::Global;
 /// A state is the number of accounts (2 bytes) and then, in the order of their names, each account:
 /// the length of its name (1 byte, 1 to 32), the name, its limit and what is used of it (8 bytes
 /// each). Numbers are big-endian.
-#[derive(Clone, Copy, Debug, PartialEq, Eq)]
+#[derive(Clone, Copy, PartialEq, Eq)]
 pub struct Accounts<const N: u16>;
 
 /// The ledger of 256 accounts: a state has at most 12,546 bytes.

@@ -1,7 +1,7 @@
 //! What a check found.
 
 /// How many pairs were good, and how many there were.
-#[derive(Clone, Copy, Debug, PartialEq, Eq)]
+#[derive(Clone, Copy, PartialEq, Eq)]
 pub struct ReceiptReport {
     pub good: u32,
     pub pairs: u32,

@@ -22,13 +22,13 @@ use std::alloc::Global;
 /// Before a key is set, `key HEX`, of 64 hexadecimal digits, sets it and says `keyed`, and any
 /// other request says `unkeyed`. From then on each request goes to the other module, and the output
 /// is the receipt. Once the count is 2^48 every request says `full`.
-#[derive(Clone, Copy, Debug, PartialEq, Eq)]
+#[derive(Clone, Copy, PartialEq, Eq)]
 pub struct Receipted<M: Short> {
     pub inner: M,
 }
 
 /// What a state keeps.
-#[derive(Clone, Copy, Debug)]
+#[derive(Clone, Copy)]
 struct KeptState<'a> {
     count: u64,
     key: Option<[u8; 32]>,

@@ -25,7 +25,7 @@ use mm_store::Store;
 use std::alloc::Global;
 
 /// Where a session stands: how it begins, or what it came to last.
-#[derive(Debug, Drop)]
+#[derive(Drop)]
 pub enum Resumed {
     /// No request waits: the first snapshot, as slot 0 has it.
     Start(Bytes),

@@ -1,7 +1,7 @@
 //! What a replay comes to.
 
 /// How many requests were committed, and how many snapshots issued.
-#[derive(Clone, Copy, Debug, PartialEq, Eq)]
+#[derive(Clone, Copy, PartialEq, Eq)]
 pub struct Report {
     pub committed: u64,
     pub issued: u32,

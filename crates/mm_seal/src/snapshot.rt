@@ -17,7 +17,7 @@ use std::marker::Model;
 use thiserror::Error;
 
 /// Where in a platform's history a snapshot was made.
-#[derive(Clone, Copy, Debug, PartialEq, Eq)]
+#[derive(Clone, Copy, PartialEq, Eq)]
 pub enum Place {
     /// The summary.
     Basic(Digest),
@@ -38,7 +38,7 @@ impl Place {
 }
 
 /// What a snapshot says, with the state borrowed.
-#[derive(Clone, Copy, Debug)]
+#[derive(Clone, Copy)]
 pub struct Body<'a> {
     /// The module's id.
     pub module: u8,

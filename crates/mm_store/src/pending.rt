@@ -15,7 +15,7 @@ use sha2::{Digest as _, Sha256};
 use std::alloc::Global;
 
 /// A request of at most 4,096 bytes without LF, and the position from 1 to 2^48 that it is to take.
-#[derive(Clone, Copy, Debug)]
+#[derive(Clone, Copy)]
 pub struct PendingRequest<'a> {
     pub position: u64,
     pub request: &'a [u8],

@@ -10,7 +10,7 @@ use mm_digest::{Digest, extended, zero};
 use mm_platform::{Device, RawNv, Register, StepFault};
 
 /// What a call that fails leaves of its effect.
-#[derive(Clone, Copy, Debug, PartialEq, Eq)]
+#[derive(Clone, Copy, PartialEq, Eq)]
 pub enum FailureEffect {
     /// Nothing.
     Nothing,

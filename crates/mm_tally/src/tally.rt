@@ -11,7 +11,7 @@ use std::alloc::Global;
 /// A count of marks, 0 at first and at most 255. Its state is the count in one byte.
 ///
 /// `mark` counts one more, as far as 255. Each request says the count behind it.
-#[derive(Clone, Copy, Debug, PartialEq, Eq)]
+#[derive(Clone, Copy, PartialEq, Eq)]
 pub struct Tally;
 
 /// The count of a state.

@@ -9,7 +9,7 @@ use mm_digest::Digest;
 use mm_platform::StepFault;
 
 /// A device step.
-#[derive(Clone, Copy, Debug)]
+#[derive(Clone, Copy)]
 pub enum HostStep {
     /// Reads the cell.
     ReadCell,
@@ -24,7 +24,7 @@ pub enum HostStep {
 }
 
 /// A device step that a host has made, with what its device answered.
-#[derive(Clone, Copy, Debug)]
+#[derive(Clone, Copy)]
 pub enum MadeStep {
     /// The cell was read.
     ReadCell(Result<[u8; CELL_LENGTH], StepFault>),
