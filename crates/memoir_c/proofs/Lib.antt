@@ -1,6 +1,2 @@
 mod Batching
-mod Lines
-mod Moves
 mod Rooming
-mod Shortening
-mod Stepping

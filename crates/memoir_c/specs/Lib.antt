@@ -1,11 +1,3 @@
-pub mod KeptTexts
 pub mod Numbers
-pub mod Steps
 pub mod CallReplies
-pub mod Calls
 pub mod PlainAnswers
-pub mod Records
-pub mod FirstInstance
-pub mod CellInstance
-pub mod BatchCalls
-pub mod MoveCalls

@@ -1,13 +1,12 @@
 //! A call that asks for a request.
 
 ghost use Rattle.std.specs.Prelude.{◌≡◌, ◌≢◌, ◌<◌, ◌≤◌, ◌++◌, true, false, length, take, drop, IfOk, IfErr, OnOk};
-ghost use Rattle.memoir_c.specs.Steps.{AreSteps};
+ghost use Rattle.memoir_c.specs.CallReplies.{AreSteps, AreParts, CallGives, IsNoCall, IsTold, reply_room, reply_state, TellsCallOutcome};
+ghost use Rattle.memoir_c.specs.CallReplies.{TellsAnswer};
 ghost use Rattle.mm_told.specs.ToldAskPromise.{ToldAskPromise};
 ghost use Rattle.mm_told.specs.HostLaws.{worn_host};
-ghost use Rattle.memoir_c.specs.Calls.{AreParts, CallGives, IsNoCall, IsTold};
-ghost use Rattle.memoir_c.specs.KeptTexts.{IsKept};
+ghost use Rattle.memoir_c.specs.Numbers.{IsKept};
 ghost use Rattle.memoir_c.specs.PlainAnswers.{room_with};
-ghost use Rattle.memoir_c.specs.CallReplies.{reply_room, reply_state, TellsCallOutcome, TellsAnswer};
 
 use crate::keeping::{Kept, keep, key_kept};
 use crate::made::{MOST_STEPS, Step, next, put_made};

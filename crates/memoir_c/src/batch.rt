@@ -4,8 +4,7 @@ ghost use Rattle.std.specs.Prelude.{◌≡◌, ◌≢◌, ◌+◌, ◌<◌, ◌�
 ghost use Rattle.mm_module.specs.Batch as batches;
 ghost use Rattle.mm_told.specs.ToldAskPromise.{ToldBatchPromise};
 ghost use Rattle.mm_told.specs.HostLaws.{worn_host};
-ghost use Rattle.memoir_c.specs.BatchCalls.{BatchGives, IsBatchTold, IsLined, lines_of};
-ghost use Rattle.memoir_c.specs.CallReplies.{reply_room};
+ghost use Rattle.memoir_c.specs.CallReplies.{BatchGives, IsBatchTold, IsLined, lines_of, reply_room};
 ghost use Rattle.memoir_c.specs.PlainAnswers.{room_with};
 
 use crate::asking::{Instance, Reply, taken, tell};

@@ -1,8 +1,7 @@
 //! A checkpoint.
 
 ghost use Rattle.std.specs.Prelude.{◌≡◌, ◌≢◌, ◌<◌, length};
-ghost use Rattle.memoir_c.specs.Calls.{ClosesTo, IsClosingTold};
-ghost use Rattle.memoir_c.specs.CallReplies.{TellsClosing};
+ghost use Rattle.memoir_c.specs.CallReplies.{ClosesTo, IsClosingTold, TellsClosing};
 
 use crate::made::{MOST_STEPS, Step, next, put_made};
 use crate::said::ReturnStatus;

@@ -1,7 +1,7 @@
 //! The instance that a cell holds.
 
 ghost use Rattle.std.specs.Prelude.{◌≡◌, ◌≢◌};
-ghost use Rattle.memoir_c.specs.CellInstance.{TellsInstance, TellsSeen, TellsKnown};
+ghost use Rattle.memoir_c.specs.PlainAnswers.{TellsInstance, TellsSeen, TellsKnown};
 
 use crate::asking::Instance;
 use crate::said::ReturnStatus;

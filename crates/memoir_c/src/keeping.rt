@@ -1,8 +1,8 @@
 //! What was sealed last, kept by the host between two calls.
 
 ghost use Rattle.std.specs.Prelude.{◌≡◌, ◌↔◌, ◌≤◌, ◌<◌, ◌-◌, ◌^◌, List, ℕ, IfSome, IsTrue, length};
-ghost use Rattle.mm_digest.specs.Hmac.{hmac_of};
-ghost use Rattle.memoir_c.specs.KeptTexts.{IsText, IsKept, no_text, nothing_kept};
+ghost use Rattle.mm_digest.specs.Messages.{hmac_of};
+ghost use Rattle.memoir_c.specs.Numbers.{IsText, IsKept, no_text, nothing_kept};
 
 use mm_call::KeptKey;
 use mm_digest::{Digest, HmacKey};

@@ -2,7 +2,7 @@
 
 ghost use Rattle.std.specs.Prelude.{◌≡◌, ◌<◌, ◌≤◌, ◌++◌, IfOk, IfErr, OnOk, length, take, replicate};
 ghost use Rattle.std.specs.Result.{result_err};
-ghost use Rattle.memoir_c.specs.Steps.{answer_by, IsStep, AreSteps, IsNoStep, HasNoStep, next_step_of};
+ghost use Rattle.memoir_c.specs.CallReplies.{answer_by, IsStep, AreSteps, IsNoStep, HasNoStep, next_step_of};
 
 use crate::said::ReturnStatus;
 use mm_bytes::CELL_LENGTH;

@@ -3,8 +3,9 @@
 ghost use Rattle.std.specs.Prelude.{◌≡◌, ◌≢◌, ◌<◌, ◌≤◌, length};
 ghost use Rattle.mm_told.specs.HostLaws.{worn_host};
 ghost use Rattle.mm_told_moves.specs.ToldMovePromise.{IsSnapshotWithin, IsTicketWithin, ToldMovePromise, acceptance_finds, invitation_finds, retirement_finds};
-ghost use Rattle.memoir_c.specs.MoveCalls.{AcceptanceGives, InvitationGives, IsAcceptanceTold, IsInvitationTold, IsRetirementTold, RetirementGives, TellsInvitation, TellsMove, TellsMoveAnswer, link_of, move_room, move_state, outcome_with_ticket};
-ghost use Rattle.memoir_c.specs.PlainAnswers.{room_with};
+ghost use Rattle.memoir_c.specs.PlainAnswers.{AcceptanceGives, InvitationGives, IsAcceptanceTold, IsInvitationTold, IsRetirementTold};
+ghost use Rattle.memoir_c.specs.PlainAnswers.{RetirementGives, TellsInvitation, TellsMove, TellsMoveAnswer, link_of, move_room, move_state};
+ghost use Rattle.memoir_c.specs.PlainAnswers.{outcome_with_ticket, room_with};
 
 use crate::asking::{Instance, taken};
 use crate::made::{MOST_STEPS, Step, next};

@@ -3,10 +3,8 @@
 ghost use Rattle.std.specs.Prelude.{◌≡◌, ◌≢◌, ◌≤◌, ◌+◌, IfErr, IfOk, length as list_length};
 ghost use Rattle.mm_bytes.specs.Limits.{longest_request};
 ghost use Rattle.std.specs.Option.{option_map};
-ghost use Rattle.mm_store.specs.PendingRecord.{ReadsPendingRecord, pending_spelling};
-ghost use Rattle.mm_store.specs.Records.{pending_of};
-ghost use Rattle.memoir_c.specs.Numbers.{number_of};
-ghost use Rattle.memoir_c.specs.Records.{HasNoRecord, PutsInFront, ReadsRecordOrNone, ReadsBack, RecordsRequest};
+ghost use Rattle.mm_store.specs.PendingRecord.{ReadsPendingRecord, pending_spelling, pending_of};
+ghost use Rattle.memoir_c.specs.Numbers.{number_of, HasNoRecord, PutsInFront, ReadsRecordOrNone, ReadsBack, RecordsRequest};
 
 use crate::said::ReturnStatus;
 use mm_bytes::{Bytes, LAST_POSITION};

@@ -1,12 +1,11 @@
 //! The first cell and snapshot of an instance.
 
 ghost use Rattle.std.specs.Prelude.{◌≡◌, ◌≢◌, ◌≤◌, IfErr, IfOk, length};
-ghost use Rattle.memoir_c.specs.PlainAnswers.{room_with};
+ghost use Rattle.memoir_c.specs.PlainAnswers.{room_with, IsMeant, IsUnmade, ProvisionsInstance, PutsFirst, first_cell, first_snapshot};
 ghost use Rattle.mm_modules.specs.Modules.{meaning_of};
-ghost use Rattle.mm_model.specs.Instance as model;
+ghost use Rattle.mm_model.specs.Chains as model;
 ghost use Rattle.mm_call.specs.Standing.{instance_by};
 ghost use Rattle.memoir_c.specs.Numbers.{number_of};
-ghost use Rattle.memoir_c.specs.FirstInstance.{IsMeant, IsUnmade, ProvisionsInstance, PutsFirst, first_cell, first_snapshot};
 
 use crate::asking::{Instance, parts};
 use crate::said::ReturnStatus;

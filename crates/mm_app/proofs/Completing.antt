@@ -1,53 +1,62 @@
--- A command of the host isn't refused where it may be done.
+-- A command of the host isn't refused where it may be done. With it: a play of the lines, with its
+-- stop line, by what the play and the line tell; a session that told nothing, by what was written,
+-- told no request.
+use Rattle.std.specs.Io.KnownBytes.{Appends}
+use Rattle.std.specs.Prelude.{◌≢◌, ◌∷◌, ◌++◌}
+use Rattle.std.specs.Str.{bytes_eq}
+use Rattle.std.proofs.Common.{append_assoc}
+use Rattle.std.proofs.lemmas.Slice.Eq.{bytes_eq-Decides}
+use Rattle.mm_bytes.specs.declared.fault.Failed.{Failed}
+use Rattle.mm_bytes.specs.declared.fault.WriteFault as write
+use Rattle.mm_base.specs.Input.{lines_of}
+use Rattle.mm_base.specs.declared.replay_fault.ReplayFault.TheVariants as replay
+use Rattle.mm_digest.specs.Messages.{zero_bytes}
+use Rattle.mm_digest.specs.declared.variant.Variant.TheVariants.{Basic, Opt}
+use Rattle.mm_seal.specs.Cell.{IsCell, blank_cell, cell_spelling}
+use Rattle.mm_seal.specs.CellLaws.{reads_cell-same}
+use Rattle.mm_seal.specs.declared.cell.Cell.{Cell}
+use Rattle.mm_module.specs.Meaning.{Meaning}
+use Rattle.mm_model.specs.Chains.{basic_instance, opt_instance}
+use Rattle.mm_model.specs.History.{first_history, History}
+use Rattle.mm_model.specs.Standing.{life_of, Lost as LostLife, Spoiled, cell_of}
+use Rattle.mm_model.specs.declared.refusal.Refusal.TheVariants as refused
+use Rattle.mm_opt.specs.declared.segment.Checkpointed.TheVariants as said
+use Rattle.mm_opt.specs.declared.segment.CheckpointRefusal.TheVariants as refusal
+use Rattle.mm_opt.specs.declared.segment.Segment.{Segment}
+use Rattle.mm_opt.specs.declared.segment.Segment.TheVariants.{Open}
+use Rattle.mm_schedule.specs.Replies.{told_line}
+use Rattle.mm_store.specs.PendingRecord.{PendingRecord}
+use Rattle.mm_store.specs.declared.fault.StoreFault.{StoreFault}
+use Rattle.mm_words.specs.declared.command.GeneratedSchedule.{GeneratedSchedule}
+use Rattle.mm_gen.specs.Schedules.{IsReplayed, replay_of}
+use Rattle.mm_gen.specs.declared.fault.BulkFault.TheVariants as bulk
+use Rattle.mm_recovery.specs.FirstStart.{host_among, init_fault_as}
+use Rattle.mm_recovery.specs.HostStanding.{HostStanding}
+use Rattle.mm_recovery.specs.declared.fault.HostFault.{HostFault}
+use Rattle.mm_recovery.specs.declared.fault.HostFault.TheVariants as host
+use Rattle.mm_recovery.specs.declared.init_fault.InitFault.TheVariants as init
+use Rattle.mm_recovery.specs.declared.resuming.Resumed.{Resumed}
+use Rattle.mm_recovery.specs.declared.resuming.Resumed.TheVariants.{Answered, Start}
+use Rattle.mm_host.specs.AnySlots.{requests_with}
+use Rattle.mm_host.specs.Continuation.{RefusesAs, IsNoLines, first_served_call, served_calls_in}
+use Rattle.mm_host.specs.Sessions.{SessionStanding, IsSession, replies_to, reply_text, ServedCall, SessionGoesAfterResume}
+use Rattle.mm_host.specs.declared.fault.SessionFault.TheVariants as session
+use Rattle.mm_host.proofs.Above.{among_input, unless_full}
+use Rattle.mm_host_commands.specs.Outside.{devices_of}
+use Rattle.mm_app.specs.Commands.{PlaysAndStops}
+use Rattle.mm_app.specs.Completeness.{CanRun, CanServe, in_basic, in_opt, IsReplayable}
+use Rattle.mm_app.specs.StatusFacts.{TellsNothing}
 use Rattle.mm_app.proofs.Below.{◌≡◌, ◌∙◌, ◌+◌, ◌≤◌, ◌<◌, ℕ, Bool, true, false, List, length, Option, None, Some, Result, Ok, Err, refl, sym}
 use Rattle.mm_app.proofs.Below.{ap, subst, inl, inr, arith, length-append, Consumes, IsAtEnd, Variant, TellsUse, GoesAfterLooking}
 use Rattle.mm_app.proofs.Below.{GoesAfterAllPuts, GoesAfterTaking, Devices, SetsUp, TakesBytes, instance_from, result_of_write}
 use Rattle.mm_app.proofs.Below.{SessionFault, InitFault, Instance, Refusal, meaning_of, module_of_id, any_is_found, AnyModule}
 use Rattle.mm_app.proofs.Below.{ClosesSegment, EndsClosing, EndsLooking, FindsClosing, FindsSegment, LooksAtSegment, WeighsRegister}
 use Rattle.mm_app.proofs.Below.{closing_by, result_of_closing_write, segment_by, segment_in, Checkpointed, CheckpointRefusal, StepFault}
-use Rattle.mm_app.proofs.Below.{Standing, Header, CommandLine, Init, Run, Checkpoint, Power, Gen, Help, checkpoint_line}
-use Rattle.mm_app.proofs.Below.{CommandDoes, DoesOrLacks, IsDoneOrFailed, CanClose, CanBeDone, ContinuesIfFound, Held, ShowsPower, Outside}
-use Rattle.mm_app.proofs.Below.{power_line, FindsInstance, SeesInstance, ServesIfFound, found_header, found_instance}
-use Rattle.mm_app.proofs.Below.{session_status, init_line, TellsLines, status_by, Status}
-use Rattle.std.specs.Str.{bytes_eq}
-use Rattle.std.proofs.lemmas.Slice.Eq.{bytes_eq-Decides}
-use Rattle.mm_bytes.specs.declared.fault.Failed.{Failed}
-use Rattle.mm_bytes.specs.declared.fault.WriteFault as write
-use Rattle.mm_digest.specs.Messages.{zero_bytes}
-use Rattle.mm_digest.specs.declared.variant.Variant.TheVariants.{Basic, Opt}
-use Rattle.mm_base.specs.declared.replay_fault.ReplayFault.TheVariants as replay
-use Rattle.mm_recovery.specs.declared.fault.HostFault.TheVariants as host
-use Rattle.std.specs.Prelude.{◌≢◌}
-use Rattle.mm_base.specs.Input.{lines_of}
-use Rattle.mm_host.proofs.Above.{among_input, unless_full}
-use Rattle.mm_host.specs.AnySlots.{requests_with}
-use Rattle.mm_host.specs.Continuation.{RefusesAs}
-use Rattle.mm_recovery.specs.HostStanding.{HostStanding}
-use Rattle.mm_recovery.specs.Init.{host_among}
-use Rattle.mm_recovery.specs.InitFaults.{init_fault_as}
-use Rattle.mm_host.specs.SessionLines.{IsNoLines}
-use Rattle.mm_host.specs.declared.fault.SessionFault.TheVariants as session
-use Rattle.mm_recovery.specs.declared.init_fault.InitFault.TheVariants as init
-use Rattle.mm_model.specs.History.{first_history, History}
-use Rattle.mm_model.specs.InstanceWords.{basic_instance, opt_instance}
-use Rattle.mm_model.specs.Life.{life_of, Lost as LostLife, Spoiled}
-use Rattle.mm_model.specs.Standing.{cell_of}
-use Rattle.mm_model.specs.declared.refusal.Refusal.TheVariants as refused
-use Rattle.mm_module.specs.Meaning.{Meaning}
-use Rattle.mm_opt.specs.declared.segment.Checkpointed.TheVariants as said
-use Rattle.mm_opt.specs.declared.segment.CheckpointRefusal.TheVariants as refusal
-use Rattle.mm_opt.specs.declared.segment.Segment.{Segment}
-use Rattle.mm_opt.specs.declared.segment.Segment.TheVariants.{Open}
-use Rattle.mm_seal.specs.Cell.{IsCell, blank_cell, cell_spelling}
-use Rattle.mm_seal.specs.declared.cell.Cell.{Cell}
-use Rattle.mm_seal.specs.CellLaws.{reads_cell-same}
-use Rattle.mm_store.specs.declared.fault.StoreFault.{StoreFault}
-use Rattle.mm_app.proofs.Below.{Bulk, bulk_lines, BulkFault, Summary}
-use Rattle.mm_host_commands.specs.Outside.{devices_of}
-use Rattle.mm_app.specs.Completeness.{CanRun, CanServe, in_basic, in_opt, IsReplayable}
-use Rattle.mm_gen.specs.Replay.{IsReplayed, replay_of}
-use Rattle.mm_gen.specs.declared.fault.BulkFault.TheVariants as bulk
-use Rattle.mm_words.specs.declared.command.GeneratedSchedule.{GeneratedSchedule}
+use Rattle.mm_app.proofs.Below.{Standing, Header, CommandLine, Init, Run, Checkpoint, Power, Gen, Help, checkpoint_line, CommandDoes}
+use Rattle.mm_app.proofs.Below.{DoesOrLacks, IsDoneOrFailed, CanClose, CanBeDone, ContinuesIfFound, Held, ShowsPower, Outside, power_line}
+use Rattle.mm_app.proofs.Below.{FindsInstance, SeesInstance, ServesIfFound, found_header, found_instance, session_status, init_line}
+use Rattle.mm_app.proofs.Below.{TellsLines, status_by, Status, Bulk, bulk_lines, BulkFault, Summary, ReplayFault, IsBlamed, is_read_fault}
+use Rattle.mm_app.proofs.Below.{is_write_fault, status_of, TellsStop, []}
 use Rattle.mm_app.proofs.Blame.{end_of}
 
 -- what was told
@@ -311,3 +320,78 @@ may_be_done command old new status can d = elim d [
   | inl does ↦ does_end command old new status can does
   | inr lacks ↦ subst IsDoneOrFailed (sym lacks.stops.ends) tt
 ]
+
+-- A play of the lines, with its stop line, by what the play and the line tell.
+
+pub plays_and_stops : {R : Type 0} (Plays : (left left' received received' : Option (List ℕ)) → Result R ReplayFault
+    → Type 0) (old new : Outside) (middle : Option (List ℕ)) (count : ℕ) (answer : Result R ReplayFault) (status : Status)
+    → Plays old.left new.left old.received middle answer → IsBlamed (is_read_fault answer) old.reads new.reads
+    → IsBlamed (is_write_fault answer) old.writes count → status ≡ status_of answer → TellsStop middle new.received count new.writes status
+    → PlaysAndStops Plays old new status
+plays_and_stops Plays old new middle count answer status plays read wrote ends stops =
+    record {
+      middle = middle;
+      count = count;
+      played = record { answer = answer; plays = plays; read = read; wrote = wrote; ends = ends };
+      stops = stops;
+    }
+
+-- A session that told nothing, by what was written, told no request.
+
+-- what a text, and one more behind it, were appended to
+received_from : (between after : Option (List ℕ)) (before sent stop : List ℕ) → Appends (Some before) between sent
+    → Appends between after stop → after ≡ Some ((before ++ sent) ++ stop)
+received_from None after before sent stop a b = absurd a
+received_from (Some text) None before sent stop a b = absurd b
+received_from (Some text) (Some all) before sent stop a b =
+    ap (λ (x : List ℕ). Some x) (b ∙ ap (λ (x : List ℕ). x ++ stop) a)
+
+-- the text begins with an answer
+abbrev BeginsAnswer : List ℕ → Type 0
+BeginsAnswer sent =
+    (again : Bool) × (position : ℕ) × (output : List ℕ) × (rest : List ℕ) × (sent ≡ told_line again position output ++ rest)
+
+no_answer : {old new : Outside} (nothing : TellsNothing old new) (between : Option (List ℕ)) (sent stop : List ℕ)
+    → Appends old.received between sent → Appends between new.received stop → BeginsAnswer sent → ⊥
+no_answer nothing between sent stop a b begins =
+    let line : List ℕ = told_line begins.0 begins.1 begins.2 in
+    let rest : List ℕ = begins.3 in
+    nothing.untold begins.0 begins.1 begins.2 (rest ++ stop)
+    (received_from between _ nothing.before sent stop (subst (λ (o : Option (List ℕ)). Appends o between sent) nothing.had a) b
+    ∙ ap (λ (x : List ℕ). Some x)
+    (append_assoc nothing.before sent stop
+    ∙ ap (λ (x : List ℕ). nothing.before ++ x) (ap (λ (x : List ℕ). x ++ stop) begins.4 ∙ append_assoc line rest stop)
+    ∙ sym (append_assoc nothing.before line (rest ++ stop))))
+
+-- what was told first, and the lines behind it
+untold_calls : (waiting : Option PendingRecord) (first : Resumed) (calls : List ServedCall) (sent replies last : List ℕ)
+    → (BeginsAnswer sent → ⊥) → sent ≡ reply_text (Ok first) ++ replies → replies ≡ replies_to calls ++ last
+    → first_served_call waiting first ++ calls ≡ []
+untold_calls waiting (Answered answer) calls sent replies last not e r =
+    absurd (not (answer.again, answer.position, answer.output, replies, e))
+untold_calls waiting (Start bytes) (c ∷ calls) sent replies last not e r =
+    absurd (not (
+      c.answer.again,
+      c.answer.position,
+      c.answer.output,
+      replies_to calls ++ last,
+      e ∙ r ∙ append_assoc (told_line c.answer.again c.answer.position c.answer.output) (replies_to calls) last,
+    ))
+untold_calls None (Start bytes) [] sent replies last not e r = refl
+untold_calls (Some p) (Start bytes) [] sent replies last not e r = refl
+
+untold_by : {variant : Variant} {meaning : Meaning} {begun : Result Resumed HostFault} {middle new : HostStanding}
+    {left : Option (List ℕ)} {taken sent : List ℕ} {result : Result (Unit {0}) SessionFault} (waiting : Option PendingRecord)
+    (goes : SessionGoesAfterResume variant meaning begun middle new left taken sent result) → (BeginsAnswer sent → ⊥)
+    → served_calls_in waiting goes ≡ []
+untold_by waiting (inl stops) not = refl
+untold_by {sent = sent} waiting (inr g) not =
+    untold_calls waiting g.first g.lines.calls sent g.replies g.lines.last not
+    (g.wrote ∙ ap (λ (r : Result Resumed HostFault). reply_text r ++ g.replies) g.begins) g.lines.wrote
+
+pub untold_session : {variant : Variant} {meaning : Meaning} {from to : SessionStanding} {result : Result (Unit {0}) SessionFault}
+    {old new : Outside} (waiting : Option PendingRecord) (s : IsSession variant meaning from to result) (stop : List ℕ)
+    → from.received ≡ old.received → TellsNothing old new → Appends to.received new.received stop → served_calls_in waiting s.goes ≡ []
+untold_session {to = to} waiting s stop same nothing b =
+    untold_by waiting s.goes
+    (no_answer nothing to.received s.sent stop (subst (λ (o : Option (List ℕ)). Appends o to.received s.sent) same s.appended) b)

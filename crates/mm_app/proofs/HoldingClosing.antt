@@ -16,18 +16,15 @@ use Rattle.mm_opt.specs.declared.segment.Checkpointed.TheVariants as said
 use Rattle.mm_opt.specs.declared.segment.CheckpointRefusal.TheVariants as refusal
 use Rattle.mm_opt.specs.declared.segment.Segment.{Segment}
 use Rattle.mm_opt.specs.declared.segment.Segment.TheVariants.{Open, Shut}
-use Rattle.mm_call.specs.Untouched.{IsUntouched}
-use Rattle.mm_platform.specs.Standing.{foreign_item, Item, item_values, register_after}
-use Rattle.mm_platform.specs.Steps.{items_beside, cell_after, WriteCell}
+use Rattle.mm_call.specs.CallFinding.{IsUntouched}
+use Rattle.mm_platform.specs.Standing.{foreign_item, Item, item_values, register_after, items_beside, cell_after, WriteCell}
 use Rattle.mm_seal.specs.Cell.{blank_cell, cell_spelling, flag_byte, ReadsCell, SpellsCell}
 use Rattle.mm_seal.specs.CellLaws.{reads_cell-same}
 use Rattle.mm_seal.specs.declared.cell.CellFault.TheVariants as unheld
-use Rattle.mm_app.specs.LossAndRefusal.{HasLostPower}
-use Rattle.mm_app.specs.StatusFacts.{CantRead, EndsByFault, FindsBasic, IsExactlyWhere}
+use Rattle.mm_app.specs.StatusFacts.{HasLostPower, CantRead, EndsByFault, FindsBasic, IsExactlyWhere}
 use Rattle.mm_status.specs.declared.status.Status.TheVariants.{Already, Blank, Cell, Kind, Lost, PlatformFault, Refused, Short}
 use Rattle.mm_app.proofs.Completing.{is_zero}
-use Rattle.mm_app.proofs.Holding.{by_fault_where, exactly_here, held_told, Holding, none_refused, nowhere, tells_held}
-use Rattle.mm_app.proofs.HoldingRefusal.{some_items}
+use Rattle.mm_app.proofs.Holding.{by_fault_where, exactly_here, held_told, Holding, none_refused, nowhere, tells_held, some_items}
 
 -- the flag of a cell's spelling
 flag_spelled : (held : Held) → get_or (cell_spelling held) 6 0 ≡ flag_byte held.flag

@@ -4,40 +4,34 @@ use Rattle.mm_app.proofs.Below.{inl, inr, arith, Held, CellFault, Run, CommandDo
 use Rattle.mm_app.proofs.Below.{found_header, found_instance, Header, Instance, Refusal, ServesAndStops, ServesIfFound, session_status}
 use Rattle.mm_app.proofs.Below.{SessionFault, AnyModule, meaning_of, module_of_id, ReplayFault}
 use Rattle.std.specs.Prelude.{◌≢◌, IsSome}
-use Rattle.mm_call.specs.CallFinding.{finding_at}
-use Rattle.mm_call.specs.UntouchedLaws.{read_untouched}
-use Rattle.mm_call.specs.Levels.{digest_level}
-use Rattle.mm_call.specs.Refusals.{fault_of}
+use Rattle.mm_call.specs.CallFinding.{finding_at, digest_level, fault_of}
+use Rattle.mm_call.specs.TellingLaws.{read_untouched}
 use Rattle.mm_call.specs.Standing.{StandsAt}
 use Rattle.mm_host.proofs.Above.{chain_ends, chain_of, lost_shown, next_in_hand, refused_as_offer, shown_lost, some_chain}
-use Rattle.mm_host.specs.AnySlots.{offer_after}
+use Rattle.mm_host.specs.AnySlots.{offer_after, EndsAt, IsNext, IsOfOffer}
 use Rattle.mm_host.specs.Continuation.{IsInHand, served_calls_in}
-use Rattle.mm_host.specs.Refusals.{EndsAt, IsNext, IsOfOffer}
 use Rattle.mm_host.specs.Sessions.{IsSession, ServedCall, told_cause}
 use Rattle.mm_host.specs.declared.fault.SessionFault.TheVariants as session
 use Rattle.mm_model.specs.Moves.{Digests}
 use Rattle.mm_model.specs.declared.refusal.Refusal.TheVariants as refusal
 use Rattle.mm_module.specs.Batch.{One}
-use Rattle.mm_platform.specs.Steps.{StepGoes, ReadCell}
-use Rattle.mm_recovery.specs.SlotFit.{first_offer}
-use Rattle.mm_recovery.specs.WaitingRequest.{IsWaiting}
+use Rattle.mm_platform.specs.Standing.{StepGoes, ReadCell}
+use Rattle.mm_recovery.specs.HostStanding.{first_offer, IsWaiting}
 use Rattle.mm_recovery.specs.declared.fault.HostFault.TheVariants as host
 use Rattle.mm_seal.specs.Cell.{blank_cell, ReadsCell, SpellsCell}
 use Rattle.mm_seal.specs.CellLaws.{reads_cell-same}
 use Rattle.mm_seal.specs.declared.cell.CellFault.TheVariants as unheld
 use Rattle.mm_store.specs.PendingRecord.{PendingRecord}
-use Rattle.mm_store.specs.Slots.{Slots, slot_front}
+use Rattle.mm_store.specs.StoreStanding.{Slots, slot_front}
 use Rattle.mm_host_commands.specs.Outside.{session_of}
-use Rattle.mm_app.specs.LossAndRefusal.{AsksFirst, AsksNext, HasLostPower, instance_of, IsExactlyAt, RefusesAt, RefusesFirst}
-use Rattle.mm_app.specs.LossAndRefusal.{RefusesNext, TellsNothing}
-use Rattle.mm_app.specs.StatusFacts.{CantRead, EndsByFault, IsExactlyWhere, IsVisible}
+use Rattle.mm_app.specs.StatusFacts.{AsksFirst, AsksNext, HasLostPower, instance_of, IsExactlyAt, RefusesAt, RefusesFirst, RefusesNext}
+use Rattle.mm_app.specs.StatusFacts.{TellsNothing, CantRead, EndsByFault, IsExactlyWhere, IsVisible}
 use Rattle.mm_host_commands.specs.Run.{refusal_status}
 use Rattle.mm_status.specs.Status.{status_at}
 use Rattle.mm_status.specs.declared.status.Status.TheVariants.{Already, Blank, Cell, Kind, Lost, Refused, Short}
-use Rattle.mm_app.proofs.HoldingRefusal.{cause_told, loss_held, loss_shown, lost_always, refused_always, StandsFirst, stands_first}
-use Rattle.mm_app.proofs.Holding.{exactly_here, fault_holding, Holding, nowhere, nowhere_at, RunLost, RunRefused}
-use Rattle.mm_app.proofs.Holding.{tells_held}
-use Rattle.mm_app.proofs.Untold.{untold_session}
+use Rattle.mm_app.proofs.Holding.{cause_told, loss_held, loss_shown, lost_always, refused_always, StandsFirst, stands_first, exactly_here}
+use Rattle.mm_app.proofs.Holding.{fault_holding, Holding, nowhere, nowhere_at, RunLost, RunRefused, tells_held}
+use Rattle.mm_app.proofs.Completing.{untold_session}
 
 -- What a session's status tells.
 

@@ -1,15 +1,7 @@
 mod Below
 mod Blame
-mod OutputBlame
 mod Completing
-mod Headlines
-mod Stopping
-mod NoUsage
-mod Theorems
-mod Holding
 mod HoldingStart
+mod Holding
 mod HoldingClosing
-mod HoldingRefusal
-mod Untold
 mod HoldingRun
-mod HoldingAll

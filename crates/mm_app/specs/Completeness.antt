@@ -4,32 +4,29 @@ use Rattle.mm_base.specs.Input.{lines_of}
 use Rattle.mm_bytes.specs.Limits.{last_position}
 use Rattle.mm_check.specs.CheckStage as checked
 use Rattle.mm_digest.specs.Messages.{zero_bytes}
-use Rattle.mm_call.specs.Premises.{AreShown}
-use Rattle.mm_call.specs.ShownItems.{standing_items}
+use Rattle.mm_call.specs.CallPremises.{AreShown, standing_items}
 use Rattle.mm_digest.specs.declared.variant.Variant.{Variant}
 use Rattle.mm_digest.specs.declared.variant.Variant.TheVariants.{Basic, Opt}
-use Rattle.mm_host.specs.AnySlots.{AreAskedInTurn, AsksNothingNew, requests_with}
-use Rattle.mm_host.specs.HonestStore.{MayGoOn}
-use Rattle.mm_gen.specs.Replay.{replay_of}
-use Rattle.mm_host.specs.SessionLines.{AreWithin}
+use Rattle.mm_host.specs.AnySlots.{AreAskedInTurn, AsksNothingNew, requests_with, MayGoOn}
+use Rattle.mm_gen.specs.Schedules.{replay_of}
+use Rattle.mm_host.specs.Continuation.{AreWithin}
 use Rattle.mm_module.specs.Batch.{Batch}
 use Rattle.mm_model.specs.History.{History, total_of}
-use Rattle.mm_model.specs.Instance.{Instance}
-use Rattle.mm_model.specs.InstanceWords.{basic_instance, opt_instance}
-use Rattle.mm_model.specs.Life.{Lost as LostLife, life_of}
+use Rattle.mm_model.specs.Chains.{Instance, basic_instance, opt_instance}
+use Rattle.mm_model.specs.Standing.{Lost as LostLife, life_of}
 use Rattle.mm_modules.specs.Modules.{meaning_of}
 use Rattle.mm_modules.specs.declared.any.AnyModule.{AnyModule}
 use Rattle.mm_platform.specs.Standing.{Item, Standing, item_values, register_after}
-use Rattle.mm_play.specs.Play.{outcome_of_input}
+use Rattle.mm_play.specs.PlaysInput.{outcome_of_input}
 use Rattle.mm_play.specs.declared.player.LineRefusal.{LineRefusal}
-use Rattle.mm_recovery.specs.SlotFit.{first_offer}
+use Rattle.mm_recovery.specs.HostStanding.{first_offer}
 use Rattle.mm_receipt.specs.ReceiptCheck.{first_check, receipts_answer, receipts_closing}
 use Rattle.mm_replay.specs.Schedule as replayed
 use Rattle.mm_schedule.specs.Headers.{header_at}
 use Rattle.mm_seal.specs.Cell.{IsCell, blank_cell, cell_spelling}
 use Rattle.mm_seal.specs.declared.cell.Cell.{Cell}
 use Rattle.mm_slots.specs.Stage as slotted
-use Rattle.mm_store.specs.Slots as kept
+use Rattle.mm_store.specs.StoreStanding as kept
 use Rattle.mm_transfer.specs.Stage as moved
 use Rattle.mm_words.specs.declared.command.CommandLine.{CommandLine}
 use Rattle.mm_words.specs.declared.command.GeneratedSchedule.{GeneratedSchedule}

@@ -1,12 +1,3 @@
-pub mod LinePlays
-pub mod Blame
-pub mod Bulk
 pub mod Commands
 pub mod Completeness
-pub mod Headline
 pub mod StatusFacts
-pub mod LossAndRefusal
-pub mod Slots
-pub mod Transfer
-pub mod WordsStatus
-pub mod CommandOutput

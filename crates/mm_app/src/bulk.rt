@@ -2,7 +2,7 @@
 
 ghost use Rattle.std.specs.Prelude.{◌≤◌};
 ghost use Rattle.mm_bytes.specs.Limits.{most_events};
-ghost use Rattle.mm_app.specs.Bulk.{RunsInBulk, TellsSummary};
+ghost use Rattle.mm_app.specs.Commands.{RunsInBulk, TellsSummary};
 ghost use Rattle.mm_host_commands.specs.Outside.{Outside};
 
 use mm_base::Sink;

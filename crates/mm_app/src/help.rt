@@ -2,7 +2,7 @@
 
 ghost use Rattle.std.specs.Prelude.{◌⊎◌};
 ghost use Rattle.mm_words.specs.Commands.{help_text};
-ghost use Rattle.mm_status.specs.CommandOutput.{StopsAs, WritesText};
+ghost use Rattle.mm_status.specs.Status.{StopsAs, WritesText};
 
 use mm_base::Sink;
 use mm_status::{Status, stopped, written};

@@ -2,7 +2,7 @@
 
 ghost use Rattle.mm_receipt.specs.Reports.{ChecksHonestly};
 ghost use Rattle.mm_words.specs.declared.command.CommandLine.TheVariants.{Receipts};
-ghost use Rattle.mm_app.specs.LinePlays.{PlaysAndStops};
+ghost use Rattle.mm_app.specs.Commands.{PlaysAndStops};
 ghost use Rattle.mm_host_commands.specs.Outside.{Outside, with_streams};
 ghost use Rattle.mm_app.specs.Completeness.{CanBeAnswered};
 ghost use Rattle.mm_status.specs.Status.{EndsUnrefused};

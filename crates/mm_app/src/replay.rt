@@ -1,8 +1,8 @@
 //! The command `replay`: an input's schedule is replayed.
 
-ghost use Rattle.mm_replay.specs.WholeReplay.{ReplaysSchedule};
+ghost use Rattle.mm_replay.specs.Schedule.{ReplaysSchedule};
 ghost use Rattle.mm_words.specs.declared.command.CommandLine.TheVariants.{Replay};
-ghost use Rattle.mm_app.specs.LinePlays.{PlaysAndStops};
+ghost use Rattle.mm_app.specs.Commands.{PlaysAndStops};
 ghost use Rattle.mm_host_commands.specs.Outside.{Outside, with_streams};
 ghost use Rattle.mm_app.specs.Completeness.{CanBeAnswered};
 ghost use Rattle.mm_status.specs.Status.{EndsUnrefused};

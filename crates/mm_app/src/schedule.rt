@@ -3,7 +3,7 @@
 ghost use Rattle.std.specs.Prelude.{◌≡◌, ◌≤◌, ◌⊎◌};
 ghost use Rattle.mm_bytes.specs.Limits.{most_events};
 ghost use Rattle.mm_gen.specs.Schedules.{schedule_text};
-ghost use Rattle.mm_status.specs.CommandOutput.{StopsAs, WritesText};
+ghost use Rattle.mm_status.specs.Status.{StopsAs, WritesText};
 
 use mm_base::Sink;
 use mm_gen::gen_;

@@ -1,8 +1,8 @@
 //! The command `slots`: an input's lines of several modules on one platform are played.
 
-ghost use Rattle.mm_slots.specs.WholeSlots.{PlaysSlots};
+ghost use Rattle.mm_slots.specs.Stage.{PlaysSlots};
 ghost use Rattle.mm_words.specs.declared.command.CommandLine.TheVariants.{Slots};
-ghost use Rattle.mm_app.specs.LinePlays.{PlaysAndStops};
+ghost use Rattle.mm_app.specs.Commands.{PlaysAndStops};
 ghost use Rattle.mm_host_commands.specs.Outside.{Outside, with_streams};
 ghost use Rattle.mm_app.specs.Completeness.{CanBeAnswered};
 ghost use Rattle.mm_status.specs.Status.{EndsUnrefused};

@@ -1,9 +1,9 @@
 //! The command `transfer`: an input's schedule of two platforms, between which a module moves, is
 //! played.
 
-ghost use Rattle.mm_transfer.specs.TransferPlay.{PlaysTransfer};
+ghost use Rattle.mm_transfer.specs.Stage.{PlaysTransfer};
 ghost use Rattle.mm_words.specs.declared.command.CommandLine.TheVariants.{Transfer};
-ghost use Rattle.mm_app.specs.LinePlays.{PlaysAndStops};
+ghost use Rattle.mm_app.specs.Commands.{PlaysAndStops};
 ghost use Rattle.mm_host_commands.specs.Outside.{Outside, with_streams};
 ghost use Rattle.mm_app.specs.Completeness.{CanBeAnswered};
 ghost use Rattle.mm_status.specs.Status.{EndsUnrefused};

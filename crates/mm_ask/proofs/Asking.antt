@@ -7,22 +7,19 @@ use Rattle.mm_module.specs.Meaning.{IsLawful, Meaning}
 use Rattle.mm_module.specs.Batch.{Batch}
 use Rattle.mm_model.specs.declared.answer.BatchAnswer.{BatchAnswer}
 use Rattle.mm_model.specs.declared.refusal.Refusal.{Refusal}
-use Rattle.mm_machine.specs.OpEnds.{OpEnds}
-use Rattle.mm_machine.specs.OpSteps.{OpSteps, number_of}
+use Rattle.mm_machine.specs.OpSteps.{OpEnds, OpSteps, number_of}
 use Rattle.mm_machine.specs.declared.call.OpResult.{OpResult as End}
 use Rattle.mm_machine.specs.declared.call.OpStage.{OpStage}
 use Rattle.mm_machine.specs.declared.call.OpStage.TheVariants.{Begun}
 use Rattle.mm_machine.specs.declared.call.StepResult.TheVariants.{Going}
 use Rattle.mm_call.specs.declared.ended.AskResult.{AskResult}
-use Rattle.mm_model.specs.Long.{is_long}
-use Rattle.mm_call.specs.AskPromise.{AskPromise}
-use Rattle.mm_call.specs.EndedCall.{EndsAsCall, result_of}
-use Rattle.mm_call.specs.Machine.{end_of_machine}
+use Rattle.mm_model.specs.Moves.{is_long}
+use Rattle.mm_call.specs.Checkpoints.{AskPromise}
+use Rattle.mm_call.specs.CallKind.{EndsAsCall, result_of, end_of_machine}
 use Rattle.mm_call.proofs.Above.{finish_blamed, IsQuiet}
 use Rattle.mm_basic.proofs.Above as in_basic
 use Rattle.mm_opt.proofs.Above as in_opt
-use Rattle.mm_ask.specs.Operating.{ask_operation, write_step_of, IsStageOf}
-use Rattle.mm_ask.specs.WholeAsk.{IsWholeAsk, ask_call}
+use Rattle.mm_ask.specs.WholeAsk.{ask_operation, write_step_of, IsStageOf, IsWholeAsk, ask_call}
 
 pub few_by : (variant : Variant) → write_step_of variant ≤ 5
 few_by Basic = omega arith

@@ -1,22 +1,41 @@
--- A whole call of either core.
-use Rattle.std.specs.Prelude.{◌≡◌, ℕ, List}
+-- A whole call of either core. With it: a call of either core, as the machine makes it.
+use Rattle.std.specs.Prelude.{ℕ, List, ◌≡◌}
 use Rattle.mm_digest.specs.declared.variant.Variant.{Variant}
+use Rattle.mm_digest.specs.declared.variant.Variant.TheVariants.{Basic, Opt}
 use Rattle.mm_platform.specs.Standing.{Standing}
-use Rattle.mm_module.specs.Meaning.{Meaning}
 use Rattle.mm_module.specs.Batch.{Batch}
+use Rattle.mm_module.specs.Meaning.{Meaning}
+use Rattle.mm_machine.specs.OpSteps.{OpMeaning, OpEnds}
+use Rattle.mm_machine.specs.declared.call.OpResult.{OpResult as End}
+use Rattle.mm_machine.specs.declared.call.OpStage.{OpStage}
+use Rattle.mm_machine.specs.declared.call.OpStage.TheVariants.{Begun}
+use Rattle.mm_machine.specs.declared.operation.OpFinding.{OpFinding}
 use Rattle.mm_model.specs.declared.answer.BatchAnswer.{BatchAnswer}
 use Rattle.mm_model.specs.declared.refusal.Refusal.{Refusal}
-use Rattle.mm_machine.specs.OpEnds.{OpEnds}
-use Rattle.mm_machine.specs.declared.call.OpResult.{OpResult as End}
-use Rattle.mm_machine.specs.declared.call.OpStage.TheVariants.{Begun}
+use Rattle.mm_call.specs.CallFinding.{CountsHandedFault, fault_in}
+use Rattle.mm_call.specs.CallKind.{EndsAsCall, result_of, call_kind, end_of_machine, CallKind}
 use Rattle.mm_call.specs.declared.ended.AskResult.{AskResult}
-use Rattle.mm_call.specs.EndedCall.{EndsAsCall, result_of}
-use Rattle.mm_call.specs.Untouched.{CountsHandedFault}
-use Rattle.mm_call.specs.Machine.{call_kind, end_of_machine}
-use Rattle.mm_call.specs.Refusals.{fault_in}
-use Rattle.mm_machine.specs.declared.operation.OpFinding.{OpFinding}
-use Rattle.mm_call.specs.CallKind.{CallKind}
-use Rattle.mm_ask.specs.Operating.{ask_operation}
+use Rattle.mm_basic.specs.Operation.{basic_operation, ExtendsNothing}
+use Rattle.mm_opt.specs.AskPromise.{opt_operation}
+
+-- A call of either core, as the machine makes it.
+
+-- what it asks
+abbrev pub ask_operation : Variant → Meaning → List ℕ → Batch → OpMeaning BatchAnswer Refusal
+ask_operation Basic meaning offer b = basic_operation meaning offer b
+ask_operation Opt meaning offer b = opt_operation meaning offer b
+
+-- the number of the step that writes the cell
+abbrev pub write_step_of : Variant → ℕ
+write_step_of Basic = 2
+write_step_of Opt = 5
+
+-- where it can stand: a call of Basic extends nothing
+abbrev pub IsStageOf : Variant → OpStage BatchAnswer → Type 0
+IsStageOf Basic stage = ExtendsNothing stage
+IsStageOf Opt stage = Unit {0}
+
+-- A whole call of either core.
 
 -- what a variant gives of its calls
 abbrev pub ask_call : Variant → CallKind (OpFinding BatchAnswer)

@@ -2,7 +2,7 @@
 
 ghost use Rattle.std.specs.Prelude.{◌≡◌, false};
 ghost use Rattle.mm_module.specs.Batches.{batch_of};
-ghost use Rattle.mm_model.specs.Long.{is_long};
+ghost use Rattle.mm_model.specs.Moves.{is_long};
 
 use mm_basic::BasicAsk;
 use mm_bytes::CELL_LENGTH;
@@ -30,7 +30,7 @@ pub struct Ask<'a, M> {
 impl<M: Module> Operation for Ask<'_, M> {
     ghost use Rattle.std.specs.Prelude.{ℕ};
     ghost use Rattle.mm_module.specs.Batches.{batch_of};
-    ghost use Rattle.mm_ask.specs.Operating.{ask_operation, write_step_of};
+    ghost use Rattle.mm_ask.specs.WholeAsk.{ask_operation, write_step_of};
 
     type Answer = BatchAnswer;
 

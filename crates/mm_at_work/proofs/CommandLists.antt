@@ -4,37 +4,31 @@ use Rattle.std.specs.List.{AllByRecursion}
 use Rattle.std.proofs.Common.{◌≡◌, ◌∙◌, ◌⊎◌, ◌++◌, ℕ, List, [], ◌∷◌, Bool, true, false, Option, None, Some, Result, Ok, Err, refl, sym, ap}
 use Rattle.std.proofs.Common.{subst, inl, inr}
 use Rattle.std.proofs.lemmas.List.{append-nil}
-use Rattle.mm_app.specs.Commands.{DoesOrLacks, UsesPlatform}
-use Rattle.mm_host_commands.specs.Outside.{devices_of, session_of}
-use Rattle.mm_host_commands.specs.Power.{LosesPower as CommandLosesPower}
+use Rattle.mm_app.specs.Commands.{DoesOrLacks, UsesPlatform, EndsAtOnce}
+use Rattle.mm_host_commands.specs.Outside.{devices_of, session_of, LosesPower as CommandLosesPower, StartsInstance}
 use Rattle.mm_host_commands.specs.Run.{FindsInstance, RunsInstance, ServesIfFound, found_instance}
-use Rattle.mm_host_commands.specs.Init.{StartsInstance}
-use Rattle.mm_app.specs.CommandOutput.{EndsAtOnce}
 use Rattle.mm_status.specs.declared.status.Status.{Status}
 use Rattle.mm_status.specs.declared.status.Status.TheVariants.{Memory}
 use Rattle.mm_call.specs.Standing.{StandsAt, cell_at, instance_by}
 use Rattle.mm_call.proofs.Above.{stands_at}
 use Rattle.mm_digest.specs.declared.variant.Variant.{Variant}
 use Rattle.mm_digest.specs.declared.variant.Variant.TheVariants.{Basic, Opt}
-use Rattle.mm_host.specs.SessionStanding.{SessionStanding, session_standing}
-use Rattle.mm_host.specs.Sessions.{IsSession}
+use Rattle.mm_host.specs.Sessions.{SessionStanding, session_standing, IsSession}
 use Rattle.mm_host.specs.declared.fault.SessionFault.{SessionFault}
-use Rattle.mm_life.specs.Deeds.{Deed, DeedLeads, Extends, LosesPower}
+use Rattle.mm_life.specs.Deeds.{Deed, DeedLeads, Extends, LosesPower, CyclesAreDeeds, ReadsAreDeeds}
 use Rattle.mm_life.specs.Deeds as deeds
-use Rattle.mm_life.specs.DeviceDeeds.{CyclesAreDeeds, ReadsAreDeeds}
-use Rattle.mm_killed.specs.Stopping.{AnyProgramStops}
-use Rattle.mm_life.specs.KilledPrograms.{KilledStartsLeave, devices_at}
-use Rattle.mm_life.specs.Stages.{Does, IsLife, LifePart, LifeStage, PartLeads, end_of, program_standing, session_stage}
-use Rattle.mm_life.specs.DeedHistory.{IsNoCall}
+use Rattle.mm_killed.specs.DeviceCalls.{AnyProgramStops}
+use Rattle.mm_life.specs.Stages.{KilledStartsLeave, devices_at, Does, IsLife, LifePart, LifeStage, PartLeads, end_of, program_standing}
+use Rattle.mm_life.specs.Stages.{session_stage}
+use Rattle.mm_life.specs.Premises.{IsNoCall}
 use Rattle.mm_life.proofs.Above.{life_stands}
-use Rattle.mm_model.specs.Instance.{Instance}
+use Rattle.mm_model.specs.Chains.{Instance}
 use Rattle.mm_model.specs.Moves.{Digests, digests_of}
 use Rattle.mm_module.specs.Meaning.{Meaning}
 use Rattle.mm_modules.specs.Modules.{meaning_of}
 use Rattle.mm_modules.specs.declared.any.AnyModule.{AnyModule}
 use Rattle.mm_modules.specs.ModulesLaws.{any_is_lawful}
-use Rattle.mm_moments.specs.KilledCalls.{CheckpointStopsAnywhere}
-use Rattle.mm_moments.specs.KilledSessions.{SessionStopsAnywhere}
+use Rattle.mm_moments.specs.MortalLives.{CheckpointStopsAnywhere, SessionStopsAnywhere}
 use Rattle.mm_recovery.proofs.Above.{is_checkpoint}
 use Rattle.mm_opt.specs.Checkpoints.{EndsLooking, FindsSegment, closing_fault_in, segment_in}
 use Rattle.mm_opt.specs.declared.segment.CheckpointRefusal.{CheckpointRefusal}
@@ -42,13 +36,11 @@ use Rattle.mm_opt.specs.declared.segment.CheckpointRefusal.TheVariants.{Device}
 use Rattle.mm_opt.specs.declared.segment.Checkpointed.{Checkpointed}
 use Rattle.mm_opt.specs.declared.segment.Segment.{Segment}
 use Rattle.mm_opt.specs.declared.segment.Segment.TheVariants.{Open, Shut}
-use Rattle.mm_platform.specs.Standing.{Item, Standing}
-use Rattle.mm_platform.specs.Steps.{items_beside}
+use Rattle.mm_platform.specs.Standing.{Item, Standing, items_beside}
 use Rattle.mm_platform.specs.declared.fault.StepFault.{StepFault}
 use Rattle.mm_platform.specs.declared.fault.StepFault.TheVariants.{Off}
-use Rattle.mm_recovery.specs.FirstStart.{InstanceBegins, InitLeaves}
+use Rattle.mm_recovery.specs.FirstStart.{InstanceBegins, InitLeaves, GoesAfterLooking, Devices, LooksAtCell, devices}
 use Rattle.mm_recovery.specs.HostStanding.{host_standing}
-use Rattle.mm_recovery.specs.Init.{GoesAfterLooking, Devices, LooksAtCell, devices}
 use Rattle.mm_recovery.specs.declared.init_fault.InitFault.{InitFault}
 use Rattle.mm_recovery.specs.declared.init_fault.InitFault.TheVariants.{Platform}
 use Rattle.mm_schedule.specs.declared.header.Header.{Header}
@@ -64,7 +56,7 @@ use Rattle.mm_at_work.specs.Commands.{AreLife, AreRun, AreStagesOf, HasBegun, Co
 use Rattle.mm_at_work.specs.Commands.{AreKilledStagesOf, AreMet, AreStagesBy, CommandBehind, DiesServing, DiesStarting, EndsOrDies, IsCommandKilled}
 use Rattle.mm_at_work.specs.Commands.{place_of}
 use Rattle.mm_at_work.specs.Commands.{IsMet, IsQuiet, CommandRun}
-use Rattle.mm_at_work.proofs.CommandStages.{finds_it}
+use Rattle.mm_at_work.proofs.WholeLives.{finds_it}
 
 -- lives, one behind another
 life_append : (variant : Variant) (meaning : Meaning) (here later : List LifeStage) (start : Standing) → IsLife variant meaning start here

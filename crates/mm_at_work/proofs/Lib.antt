@@ -1,9 +1,4 @@
 mod Below
-mod InMemory
-mod Beginning
-mod OldCopies
-mod WholeLives
-mod CommandStages
-mod CommandLists
 mod CommandsKeeping
-mod HostRuns
+mod WholeLives
+mod CommandLists

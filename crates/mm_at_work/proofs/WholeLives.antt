@@ -1,42 +1,57 @@
--- Lives over devices in memory are wholes: the slots of the first start are offered first, and of a copy what is asked.
+-- Lives over devices in memory are wholes: the slots of the first start are offered first, and of a
+-- copy what is asked. With it: the commands of the program are parts of a life, by what each does;
+-- one command more, behind those that were run.
 use Rattle.std.specs.List.{Contains}
-use Rattle.std.proofs.Common.{◌≡◌, ◌≤◌, ◌∙◌, ℕ, List, [], ◌∷◌, None, Some, Result, arith, drop, length, refl, sym, ap, subst, take}
-use Rattle.std.proofs.Common.{inl, inr}
+use Rattle.std.proofs.Common.{◌≡◌, ◌≤◌, ◌∙◌, ℕ, List, [], ◌∷◌, None, Some, Result, arith, drop, length, refl, sym, ap, subst, take, inl}
+use Rattle.std.proofs.Common.{inr, Option, Ok, Err, ◌+◌, ◌++◌, false, length-append}
 use Rattle.std.proofs.lemmas.List.{append-nil, take_all}
 use Rattle.mm_digest.specs.declared.variant.Variant.{Variant}
 use Rattle.mm_digest.specs.declared.variant.Variant.TheVariants.{Basic, Opt}
+use Rattle.mm_seal.specs.Cell.{IsCell, cell_spelling}
+use Rattle.mm_seal.specs.CellLaws.{reads_cell-same}
+use Rattle.mm_seal.specs.declared.cell.Cell.{Cell as Held}
 use Rattle.mm_platform.specs.Standing.{Standing}
-use Rattle.mm_module.specs.Meaning.{IsLawful, Meaning}
-use Rattle.mm_model.specs.History.{History, first_history}
-use Rattle.mm_model.specs.Instance.{Instance}
-use Rattle.mm_model.specs.InstanceWords.{basic_instance, opt_instance}
-use Rattle.mm_model.specs.FitLaws.{sealed_snapshot_of-most}
-use Rattle.mm_model.specs.Standing.{issued_bytes}
-use Rattle.mm_call.specs.OfferLaws.{basic_content, opt_content}
-use Rattle.mm_opt.specs.declared.segment.CheckpointRefusal.{CheckpointRefusal}
-use Rattle.mm_opt.specs.declared.segment.Checkpointed.{Checkpointed}
-use Rattle.mm_store.specs.Slots.{Slots, longest_slot, slot_front}
-use Rattle.mm_store.proofs.Above.{longest_slot-is}
-use Rattle.mm_recovery.specs.FirstStart.{IsFirstStore, ShowsValues, first_history_on, first_slots}
-use Rattle.mm_recovery.specs.SlotFit.{first_offer}
-use Rattle.mm_recovery.proofs.Above.{one_waiting}
-use Rattle.mm_host.specs.SessionStanding.{SessionStanding}
-use Rattle.mm_host.specs.Sessions.{IsSession}
-use Rattle.mm_host.specs.declared.fault.SessionFault.{SessionFault}
-use Rattle.mm_pages.specs.CachedDevice.{CachedDevice}
-use Rattle.mm_pages.specs.Sheets.{Sheets}
+use Rattle.mm_platform.specs.declared.fault.StepFault.{StepFault}
 use Rattle.mm_twocell.specs.TornMemory.{TornMemory}
 use Rattle.mm_twocell.specs.declared.pair.TwoCell.{TwoCell}
+use Rattle.mm_module.specs.Meaning.{IsLawful, Meaning}
+use Rattle.mm_modules.specs.Modules.{any_is_found, module_of_id, meaning_of}
+use Rattle.mm_modules.specs.declared.any.AnyModule.{AnyModule}
+use Rattle.mm_model.specs.Chains.{Instance, basic_instance, opt_instance}
+use Rattle.mm_model.specs.FormLaws.{sealed_snapshot_of-most}
+use Rattle.mm_model.specs.History.{History, first_history}
+use Rattle.mm_model.specs.Standing.{issued_bytes, cell_of}
+use Rattle.mm_call.specs.OfferLaws.{basic_content, opt_content}
+use Rattle.mm_call.specs.Standing.{instance_by}
+use Rattle.mm_opt.specs.declared.segment.Checkpointed.{Checkpointed}
+use Rattle.mm_opt.specs.declared.segment.CheckpointRefusal.{CheckpointRefusal}
+use Rattle.mm_schedule.specs.declared.header.Header.{Header}
 use Rattle.mm_evidence.proofs.Above.{clash_or}
-use Rattle.mm_life.specs.Deeds.{LifeCall, Checkpoints, Deed, LosesPower}
+use Rattle.mm_status.specs.declared.status.Status.{Status}
+use Rattle.mm_store.specs.StoreStanding.{Slots, longest_slot, slot_front}
+use Rattle.mm_store.proofs.Above.{longest_slot-is}
+use Rattle.mm_pages.specs.CachedDevice.{CachedDevice}
+use Rattle.mm_pages.specs.PageStanding.{Sheets}
+use Rattle.mm_recovery.specs.FirstStart.{IsFirstStore, ShowsValues, first_history_on, first_slots, InitLeaves}
+use Rattle.mm_recovery.specs.HostStanding.{first_offer}
+use Rattle.mm_recovery.specs.declared.init_fault.InitFault.{InitFault}
+use Rattle.mm_recovery.proofs.Above.{one_waiting, is_checkpoint}
+use Rattle.mm_host.specs.Sessions.{SessionStanding, IsSession}
+use Rattle.mm_host.specs.declared.fault.SessionFault.{SessionFault}
+use Rattle.mm_host_commands.specs.Outside.{Outside, devices_of}
+use Rattle.mm_host_commands.specs.Run.{FindsInstance, SeesInstance, ServesIfFound, found_header, found_instance}
+use Rattle.mm_life.specs.Deeds.{LifeCall, Checkpoints, Deed, LosesPower, IsFirstOffered, session_calls, DeedLeads, Extends, CyclesAreDeeds}
+use Rattle.mm_life.specs.Deeds.{ReadsAreDeeds}
 use Rattle.mm_life.specs.Laws.{BasicLifeIsOne, OptLifeIsOne, SessionsOfferSlots}
 use Rattle.mm_life.specs.Premises.{IsFirstUntagged, IsUntagged, life_batches, life_messages, opt_messages, others_values, snapshots_of}
-use Rattle.mm_life.specs.SessionCalls.{IsFirstOffered, session_calls}
 use Rattle.mm_life.specs.Stages.{Does, IsLife, LifeStage, session_on, session_stage}
-use Rattle.mm_at_work.specs.Devices.{program_in_memory, session_in_memory, two_cells}
+use Rattle.mm_at_work.specs.CommandLives.{CheckpointsArePartsOfLife, IsRunOfLife, LossesArePartsOfLife, RunsArePartsOfLife}
+use Rattle.mm_at_work.specs.CommandLives.{RunsFindTheInstance, InitBeginsLife}
+use Rattle.mm_at_work.specs.Commands.{AreRun, CommandBehind, IsCommandRun, CommandRun, standing_behind}
+use Rattle.mm_at_work.specs.declared.hosts.Verb.{Verb}
+use Rattle.mm_at_work.specs.Devices.{program_in_memory, session_in_memory, two_cells, StartsInMemory}
 use Rattle.mm_at_work.specs.Lives.{BeginsLife, FirstSlotsAreOld, IsOldCopy, IsWholeInBasic, IsWholeInOpt, LivesCheckpointed, LivesOnCopy}
-use Rattle.mm_at_work.specs.Lives.{LivesWithoutPower, MemoryLife}
-use Rattle.mm_at_work.specs.MemoryStart.{StartsInMemory}
+use Rattle.mm_at_work.specs.Lives.{LivesWithoutPower, MemoryLife, AreHanded, AreOfRounds, HaveRun, HostRound, IsOfRound, verb_command}
 
 -- The first slots offer the first snapshot, as nothing waits in them.
 fits_slot : (size limit : ℕ) → size ≤ 1048690 → limit ≡ 1100000 → size ≤ limit
@@ -225,4 +240,126 @@ module _ (meaning : Meaning) (lawful : IsLawful meaning) (offers : SessionsOffer
       life = f;
       whole = whole_checkpointed said closed f;
       first_is_old = opt_old;
+    }
+
+-- The commands of the program are parts of a life, by what each does.
+
+run_leads : (found : Result Header Status) (old new : Outside) (middle : Standing) (values : List (List ℕ)) (status : Status)
+    → ((variant : Variant) (meaning : Meaning) → DeedLeads variant meaning old.standing (Extends values) middle)
+    → ServesIfFound found (record old { standing = middle }) new status → IsRunOfLife found old new middle values
+run_leads (Err end) old new middle values status looks s =
+    λ variant meaning. (
+      subst (λ (it : Standing). DeedLeads variant meaning old.standing (Extends values) it) (sym s.standing)
+          (looks variant meaning),
+      tt,
+    )
+run_leads (Ok header) old new middle values status looks s =
+    (s.between, s.served.answer, (looks header.variant (meaning_of header.«module»), (s.served.sessions, tt)))
+
+pub runs_are_parts : ReadsAreDeeds → RunsArePartsOfLife
+runs_are_parts deeds old new status r =
+    run_leads r.found old new r.middle r.looks.goes.others status
+    (λ variant meaning. deeds variant meaning old.standing r.middle r.looks.fault r.looks.goes) r.goes
+
+pub init_begins : InitBeginsLife
+init_begins header old new status s done is =
+    subst (λ (answer : Result (Unit {0}) InitFault). InitLeaves header.variant (meaning_of header.«module») (devices_of old)
+    (devices_of new) answer) is s.leaves
+
+-- a cell that holds the instance is found to hold it
+sees_it : (variant : Variant) (it : AnyModule) (held : Held) (found : Result Header Status) (bytes : List ℕ) → held.variant ≡ variant
+    → held.«module» ≡ (meaning_of it).id → IsCell held → bytes ≡ cell_spelling held → SeesInstance bytes found
+    → found ≡ Ok (record { variant = variant; «module» = it })
+sees_it variant it held found bytes same id formed spelled sees =
+    let read = reads_cell-same bytes sees.read (Ok held) sees.reads (formed, spelled) in
+    sees.found_is ∙ ap found_instance read ∙ (λ j. found_header (same j) (module_of_id (id j)))
+    ∙ ap (found_header variant) (any_is_found it).by_id
+
+pub finds_it : (variant : Variant) (it : AnyModule) (held : Held) (fault : Option StepFault) (before : Standing)
+    (found : Result Header Status)
+    → held.variant ≡ variant → held.«module» ≡ (meaning_of it).id → IsCell held → before.cell ≡ Some (cell_spelling held) → fault ≡ None
+    → FindsInstance fault before found → found ≡ Ok (record { variant = variant; «module» = it })
+finds_it variant it held (Some fault) before found same id formed told none finds = cc
+finds_it variant it held None before found same id formed told none finds =
+    sees_it variant it held found finds.0 same id formed (finds.1 (cell_spelling held) told) finds.2
+
+pub runs_find : RunsFindTheInstance
+runs_find it Basic key barrier y old new status r s none =
+    finds_it Basic it (cell_of (instance_by Basic (meaning_of it) key barrier) y) r.looks.fault old.standing r.found refl refl s.spells
+    s.cell none r.looks.finds
+runs_find it Opt key barrier y old new status r s none =
+    finds_it Opt it (cell_of (instance_by Opt (meaning_of it) key barrier) y) r.looks.fault old.standing r.found refl refl s.spells s.cell
+    none r.looks.finds
+
+pub checkpoints_are_parts : CheckpointsArePartsOfLife
+checkpoints_are_parts variant meaning old new status c = is_checkpoint old.standing new.standing c.answer c.closes c.goes
+
+pub losses_are_parts : CyclesAreDeeds → LossesArePartsOfLife
+losses_are_parts deeds variant meaning old new status l = deeds variant meaning old.standing new.standing l.fault l.cycles
+
+-- One command more, behind those that were run.
+
+-- a command behind which the platform wasn't touched
+abbrev pub behind_none : CommandRun → CommandBehind
+behind_none r = record { met = []; ran = r; killed = false }
+
+run_more : (commands : List CommandBehind) (start : Standing) (r : CommandRun) → AreRun start commands
+    → r.old.standing ≡ standing_behind start commands
+    → IsCommandRun r → AreRun start (commands ++ behind_none r ∷ [])
+run_more [] start r run same is = (same, is, tt)
+run_more (c ∷ commands) start r run same is = (run.0, run.1, run_more commands c.new.standing r run.2 same is)
+
+behind_more : (commands : List CommandBehind) (start : Standing) (r : CommandRun)
+    → standing_behind start (commands ++ behind_none r ∷ []) ≡ r.new.standing
+behind_more [] start r = refl
+behind_more (c ∷ commands) start r = behind_more commands c.new.standing r
+
+module _ {H O : Type 0} (hands : H → H → O → O → Verb → Type 0) where
+  handed_more : (rounds : List (HostRound O)) (host middle last : H) (objects between : O) (round : HostRound O)
+      → AreHanded hands host objects rounds middle between → hands middle last between round.handed round.verb
+      → AreHanded hands host objects (rounds ++ round ∷ []) last round.left
+  handed_more [] host middle last objects between round h says =
+      let here = subst (λ (x : O). hands host last x round.handed round.verb) h.1
+      (subst (λ (x : H). hands x last between round.handed round.verb) h.0 says) in
+      (last, here, (refl, refl))
+  handed_more (first ∷ rounds) host middle last objects between round h says =
+      (h.0, h.1, handed_more rounds h.0 middle last first.left between round h.2 says)
+
+module _ {O : Type 0} (tells : Standing → O → Outside) where
+  of_more : (commands : List CommandBehind) (rounds : List (HostRound O)) (r : CommandBehind) (round : HostRound O)
+      → AreOfRounds tells commands rounds → IsOfRound tells r round
+      → AreOfRounds tells (commands ++ r ∷ []) (rounds ++ round ∷ [])
+  of_more [] [] r round h is = (is, tt)
+  of_more [] (x ∷ rounds) r round h is = absurd h
+  of_more (c ∷ commands) [] r round h is = absurd h
+  of_more (c ∷ commands) (x ∷ rounds) r round h is = (h.0, of_more commands rounds r round h.1 is)
+
+pub none_run : {H O : Type 0} (hands : H → H → O → O → Verb → Type 0) (tells : Standing → O → Outside) (start : Standing) (host : H)
+    (objects : O) → HaveRun hands tells start start host host objects objects 0
+none_run hands tells start host objects =
+    record { rounds = []; counted = refl; handed = (refl, refl); commands = []; of_rounds = tt; run = tt; ends = refl }
+
+pub one_more_run : {H O : Type 0} (hands : H → H → O → O → Verb → Type 0) (tells : Standing → O → Outside) (start middle new : Standing)
+    (host between last : H) (objects before handed left : O) (rounds : ℕ) (verb : Verb) (r : CommandRun)
+    → HaveRun hands tells start middle host between objects before rounds → hands between last before handed verb
+    → r.command ≡ verb_command verb → r.old ≡ tells middle handed → r.new ≡ tells new left → r.old.standing ≡ middle
+    → r.new.standing ≡ new → IsCommandRun r
+    → HaveRun hands tells start new host last objects left (rounds + 1)
+one_more_run {H} {O} hands tells start middle new host between last objects before handed left rounds verb r h says command old behind at
+    after is =
+    let round : HostRound O = record { verb = verb; handed = handed; left = left } in
+    record {
+      rounds = h.rounds ++ round ∷ [];
+      counted = omega (arith, length-append h.rounds (round ∷ []), h.counted);
+      handed = handed_more hands h.rounds host between last objects before round h.handed says;
+      commands = h.commands ++ behind_none r ∷ [];
+      of_rounds = of_more tells h.commands h.rounds (behind_none r) round h.of_rounds
+          (record {
+            command = command;
+            old = old ∙ ap (λ (s : Standing). tells s handed) (sym at);
+            new = behind ∙ ap (λ (s : Standing). tells s left) (sym after);
+            ended = refl;
+          });
+      run = run_more h.commands start r h.run (at ∙ h.ends) is;
+      ends = sym after ∙ sym (behind_more h.commands start r);
     }

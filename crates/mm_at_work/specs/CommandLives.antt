@@ -1,20 +1,16 @@
 -- The commands of the program that go on with an instance are parts of a life.
 use Rattle.std.specs.Prelude.{◌≡◌, ℕ, List, [], ◌∷◌, Option, None, Result, Ok, Err}
-use Rattle.mm_host_commands.specs.Checkpoint.{CheckpointsInstance}
+use Rattle.mm_host_commands.specs.Outside.{CheckpointsInstance, Outside, devices_of, LosesPower, StartsInstance}
 use Rattle.mm_call.specs.Standing.{instance_by}
 use Rattle.mm_model.specs.History.{History}
 use Rattle.mm_model.specs.Standing.{StandsFor}
 use Rattle.mm_modules.specs.declared.any.AnyModule.{AnyModule}
-use Rattle.mm_host_commands.specs.Outside.{Outside, devices_of}
-use Rattle.mm_host_commands.specs.Power.{LosesPower}
 use Rattle.mm_host_commands.specs.Run.{RunsInstance}
-use Rattle.mm_host_commands.specs.Init.{StartsInstance}
 use Rattle.mm_recovery.specs.FirstStart.{InstanceBegins}
 use Rattle.mm_status.specs.declared.status.Status.{Status}
 use Rattle.mm_host.specs.declared.fault.SessionFault.{SessionFault}
-use Rattle.mm_life.specs.Deeds.{DeedLeads, Extends}
+use Rattle.mm_life.specs.Deeds.{DeedLeads, Extends, CyclesLead}
 use Rattle.mm_life.specs.Deeds as deeds
-use Rattle.mm_life.specs.DeviceDeeds.{CyclesLead}
 use Rattle.mm_life.specs.Stages.{Does, IsLife, LifeStage, ProgramStanding, program_standing, session_stage}
 use Rattle.mm_module.specs.Meaning.{Meaning}
 use Rattle.mm_modules.specs.Modules.{meaning_of}

@@ -7,36 +7,32 @@ use Rattle.mm_app.specs.Commands.{DoesOrLacks, UsesPlatform}
 use Rattle.mm_host_commands.specs.Outside.{Outside, devices_of, session_of}
 use Rattle.mm_host_commands.specs.Run.{LooksAtInstance, session_status}
 use Rattle.mm_killed.specs.DeviceCalls.{Place}
-use Rattle.mm_status.specs.CommandOutput.{StopsAs, TellsStop}
+use Rattle.mm_status.specs.Status.{StopsAs, TellsStop}
 use Rattle.mm_status.specs.declared.status.Status.{Status}
 use Rattle.mm_call.specs.Standing.{instance_by}
 use Rattle.mm_digest.specs.declared.variant.Variant.{Variant}
-use Rattle.mm_host.specs.SessionStanding.{SessionStanding, session_standing}
-use Rattle.mm_host.specs.Sessions.{IsSession}
+use Rattle.mm_host.specs.Sessions.{SessionStanding, session_standing, IsSession}
 use Rattle.mm_host.specs.declared.fault.SessionFault.{SessionFault}
 use Rattle.mm_life.specs.Deeds.{Deed, Extends, LosesPower}
-use Rattle.mm_life.specs.KilledPrograms.{AllRuns, IsKilled, ProgramCode, devices_at}
-use Rattle.mm_life.specs.Stages.{Does, IsLife, LifePart, LifeStage, program_standing, session_stage}
-use Rattle.mm_life.specs.DeedHistory.{IsNoCall}
+use Rattle.mm_life.specs.Stages.{AllRuns, IsKilled, ProgramCode, devices_at, Does, IsLife, LifePart, LifeStage, program_standing}
+use Rattle.mm_life.specs.Stages.{session_stage}
+use Rattle.mm_life.specs.Premises.{IsNoCall}
 use Rattle.mm_model.specs.History.{History}
 use Rattle.mm_model.specs.Standing.{StandsFor}
 use Rattle.mm_module.specs.Meaning.{Meaning}
-use Rattle.mm_moments.specs.KilledCalls.{checkpoint_moments}
-use Rattle.mm_moments.specs.KilledSessions.{IsKilledSession}
+use Rattle.mm_moments.specs.MortalLives.{checkpoint_moments, IsKilledSession}
 use Rattle.mm_moments.specs.Moments.{StepMoment}
 use Rattle.mm_modules.specs.Modules.{meaning_of}
 use Rattle.mm_modules.specs.declared.any.AnyModule.{AnyModule}
-use Rattle.mm_opt.specs.CheckpointOnCourse.{IsCheckpointOnCourse}
+use Rattle.mm_opt.specs.CheckpointPromise.{IsCheckpointOnCourse}
 use Rattle.mm_opt.specs.Checkpoints.{ClosesSegment}
 use Rattle.mm_opt.specs.declared.segment.CheckpointRefusal.{CheckpointRefusal}
 use Rattle.mm_opt.specs.declared.segment.Checkpointed.{Checkpointed}
-use Rattle.mm_platform.specs.Standing.{Standing}
-use Rattle.mm_platform.specs.Steps.{PowerCycles, ReadCell, StepGoes, items_beside}
+use Rattle.mm_platform.specs.Standing.{Standing, PowerCycles, ReadCell, StepGoes, items_beside}
 use Rattle.mm_platform.specs.declared.fault.StepFault.{StepFault}
 use Rattle.mm_platform.specs.declared.fault.StepFault.TheVariants.{Off}
-use Rattle.mm_recovery.specs.FirstStart.{InitLeaves, InstanceBegins, ShowsValues}
+use Rattle.mm_recovery.specs.FirstStart.{InitLeaves, InstanceBegins, ShowsValues, InitGoes, devices}
 use Rattle.mm_recovery.specs.HostStanding.{host_standing}
-use Rattle.mm_recovery.specs.Init.{InitGoes, devices}
 use Rattle.mm_recovery.specs.declared.init_fault.InitFault.{InitFault}
 use Rattle.mm_schedule.specs.declared.header.Header.{Header}
 use Rattle.mm_seal.specs.Cell.{blank_cell}

@@ -1,11 +1,4 @@
 pub mod Devices
-pub mod MemoryRecovery
-pub mod MemoryStart
-pub mod FirstSession
-pub mod OldCopy
 pub mod Lives
 pub mod CommandLives
 pub mod Commands
-pub mod HandedRounds
-pub mod CommandPromises
-pub mod Verbs

@@ -3,9 +3,9 @@
 ghost use Rattle.std.specs.Prelude.{◌≡◌, false};
 ghost use Rattle.mm_digest.specs.declared.variant.Variant.TheVariants.{Basic, Opt};
 ghost use Rattle.mm_module.specs.Batches.{batch_of};
-ghost use Rattle.mm_model.specs.Long.{is_long};
-ghost use Rattle.mm_call.specs.CallOnCourse.{IsCallOnCourse};
-ghost use Rattle.mm_recovery.specs.Elsewhere.{IsCheckpoint};
+ghost use Rattle.mm_model.specs.Moves.{is_long};
+ghost use Rattle.mm_call.specs.CallKind.{IsCallOnCourse};
+ghost use Rattle.mm_recovery.specs.HostStanding.{IsCheckpoint};
 ghost use Rattle.mm_at_work.specs.Devices.{two_cells};
 
 use mm_model::{BatchAnswer, Refusal};

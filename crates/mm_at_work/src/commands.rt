@@ -4,7 +4,7 @@ ghost use Rattle.std.specs.Prelude.{map};
 ghost use Rattle.mm_host_commands.specs.Outside.{outside};
 ghost use Rattle.mm_words.specs.Commands.{SpellsCommand};
 ghost use Rattle.mm_words.specs.declared.command.CommandLine.{CommandLine};
-ghost use Rattle.mm_at_work.specs.CommandPromises.{BasicCommandsKeepPromises, OptCommandsKeepPromises};
+ghost use Rattle.mm_at_work.specs.Lives.{BasicCommandsKeepPromises, OptCommandsKeepPromises};
 ghost use Rattle.mm_at_work.specs.Commands.{CommandsAreLife, CommandsFromBlank, IsCommandRun};
 ghost use Rattle.mm_at_work.specs.CommandLives.{CheckpointsArePartsOfLife, InitBeginsLife, LossesArePartsOfLife, RunsArePartsOfLife, RunsFindTheInstance};
 

@@ -2,11 +2,9 @@
 
 ghost use Rattle.std.specs.Prelude.{OnOk};
 ghost use Rattle.mm_host_commands.specs.Outside.{outside};
-ghost use Rattle.mm_at_work.specs.CommandPromises.{LivesUnderHost};
+ghost use Rattle.mm_at_work.specs.Lives.{LivesUnderHost, HaveRun, verb_command};
 ghost use Rattle.mm_at_work.specs.Commands.{IsCommandRun};
-ghost use Rattle.mm_at_work.specs.HandedRounds.{HaveRun};
 ghost use Rattle.mm_at_work.specs.Devices.{first_devices, memory_objects, two_cells};
-ghost use Rattle.mm_at_work.specs.Verbs.{verb_command};
 
 use crate::commands::{commands_keep_promises, run_command};
 use crate::sessions::{start, tells_cell};

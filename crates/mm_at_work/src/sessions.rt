@@ -1,16 +1,12 @@
 //! The host program over two cells and pages in memory.
 
 ghost use Rattle.std.specs.Prelude.{◌≡◌, ℕ, List, Some, IfOk, OnOk, length};
-ghost use Rattle.mm_host.specs.AnySlots.{SessionRunsOnce};
-ghost use Rattle.mm_host.specs.HonestStore.{SessionContinues};
+ghost use Rattle.mm_host.specs.AnySlots.{SessionRunsOnce, SessionContinues};
 ghost use Rattle.mm_recovery.specs.FirstStart.{InitLeaves};
 ghost use Rattle.mm_host.specs.Sessions.{IsSession};
-ghost use Rattle.mm_host.specs.SessionWrites.{SessionWrites};
-ghost use Rattle.mm_at_work.specs.Devices.{first_devices, memory_host, memory_session, session_in_memory, two_cells};
-ghost use Rattle.mm_at_work.specs.FirstSession.{BeginsAndServes};
-ghost use Rattle.mm_at_work.specs.OldCopy.{ServesCopy};
-ghost use Rattle.mm_at_work.specs.MemoryRecovery.{RecoversInMemory};
-ghost use Rattle.mm_at_work.specs.MemoryStart.{StartsInMemory};
+ghost use Rattle.mm_host.specs.Continuation.{SessionWrites};
+ghost use Rattle.mm_at_work.specs.Devices.{first_devices, memory_host, memory_session, session_in_memory, two_cells, BeginsAndServes};
+ghost use Rattle.mm_at_work.specs.Devices.{ServesCopy, RecoversInMemory, StartsInMemory};
 
 use mm_base::{MemSink, MemSource};
 use mm_digest::Variant;

@@ -1,2 +1,2 @@
 -- What crates above may cite of these proofs: the other files can be read and changed by this crate alone.
-pub use Rattle.mm_base.proofs.StreamLemmas.{Consumes-both}
+pub use Rattle.mm_base.proofs.ReadingLemmas.{Consumes-both}

@@ -1,5 +1,3 @@
 pub mod Above
 mod Below
-mod LineLemmas
 mod ReadingLemmas
-mod StreamLemmas

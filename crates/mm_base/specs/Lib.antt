@@ -1,12 +1,7 @@
-pub mod HeldBytes
-pub mod Input
-pub mod Lines
-pub mod ReadsNextLine
 pub mod Streams
+pub mod Input
 pub mod InputLaws
-pub use Rattle.mm_bytes.specs.Decimals
-pub use Rattle.mm_bytes.specs.Faults
-pub use Rattle.mm_bytes.specs.Fields
 pub use Rattle.mm_bytes.specs.Limits
-pub use Rattle.mm_bytes.specs.FieldLaws
+pub use Rattle.mm_bytes.specs.Limits
+pub use Rattle.mm_bytes.specs.DecimalLaws
 pub use Rattle.mm_bytes.specs.DecimalLaws

@@ -2,13 +2,11 @@
 
 ghost use Rattle.std.specs.Prelude.{◌≡◌, ◌≢◌, ◌+◌, ◌-◌, ◌<◌, ◌≤◌, List, ℕ, [], length, drop, take, slice_index, slice_range, IfOk, MatchOption};
 ghost use Rattle.std.specs.Io.KnownBytes.{ReadConsumes};
-ghost use Rattle.mm_bytes.specs.Faults.{CountsFaults};
+ghost use Rattle.mm_bytes.specs.Limits.{CountsFaults, longest_line};
 ghost use Rattle.mm_base.specs.declared.lines.TheConstants.{ROOM};
 ghost use Rattle.std.specs.Borrow.{sem};
 ghost use Rattle.std.specs.Io.BufRead.{Rests};
-ghost use Rattle.mm_base.specs.Input.{IsUnbroken};
-ghost use Rattle.mm_bytes.specs.Limits.{longest_line};
-ghost use Rattle.mm_base.specs.Lines.{HasBreakAt, CountsReads, SeesLine, SourceRefills, ReaderSees, seen_line_at_end};
+ghost use Rattle.mm_base.specs.Input.{IsUnbroken, HasBreakAt, CountsReads, SeesLine, SourceRefills, ReaderSees, seen_line_at_end};
 
 use crate::source::{Source, copy_front};
 use memchr::memchr;
@@ -59,7 +57,7 @@ pub struct LineReader {
 
 impl Model for LineReader {
     ghost use Rattle.std.specs.Prelude.{List, ℕ};
-    ghost use Rattle.mm_base.specs.HeldBytes.{held_bytes};
+    ghost use Rattle.mm_base.specs.Streams.{held_bytes};
 
     ghost Value = { List ℕ };
 
@@ -67,8 +65,8 @@ impl Model for LineReader {
 }
 
 impl LineReader {
-    ghost use Rattle.mm_base.specs.ReadsNextLine.{ReadsNextLine};
-    ghost use Rattle.mm_base.specs.Lines.{HoldsLine};
+    ghost use Rattle.mm_base.specs.Streams.{ReadsNextLine};
+    ghost use Rattle.mm_base.specs.Input.{HoldsLine};
     ghost use Rattle.mm_base.specs.contracts.lines.LineReader.{the_row};
 
     /// A reader that holds nothing. Reserves all its room, 32,768 bytes.
@@ -123,7 +121,7 @@ struct HeldBytes {
 }
 
 impl HeldBytes {
-    ghost use Rattle.mm_base.specs.HeldBytes.{held_bytes};
+    ghost use Rattle.mm_base.specs.Streams.{held_bytes};
 
     fn new(alloc: Global) -> Result<HeldBytes, Memory>
         ensures { IfOk result (λ held. held_bytes held ≡ []) }

@@ -2,7 +2,7 @@
 
 ghost use Rattle.std.specs.Prelude.{◌≡◌, ◌+◌, ◌-◌, ◌↔◌, ◌<◌, ◌≤◌, ◌⊎◌, List, ℕ, [], Option, Some, length, min, vec_capacity, Contains, IfOk, IsErr, OnErr};
 ghost use Rattle.std.specs.Io.KnownBytes.{WriteAppends};
-ghost use Rattle.mm_bytes.specs.Faults.{next_count, CountsFaults};
+ghost use Rattle.mm_bytes.specs.Limits.{next_count, CountsFaults};
 ghost use Rattle.mm_base.specs.Streams.{Intake, intake_of, intake_after_give, SinkSends, IsCutShort};
 
 use mm_bytes::{Failed, Memory, WriteFault};

@@ -2,7 +2,7 @@
 
 ghost use Rattle.std.specs.Prelude.{◌≡◌, ◌+◌, ◌↔◌, ◌<◌, ◌≤◌, List, ℕ, Option, Some, drop, take, length, min, Contains, IfOk, IsErr, OnOk};
 ghost use Rattle.std.specs.Io.KnownBytes.{ReadConsumes};
-ghost use Rattle.mm_bytes.specs.Faults.{next_count, CountsFaults};
+ghost use Rattle.mm_bytes.specs.Limits.{next_count, CountsFaults};
 ghost use Rattle.mm_base.specs.Streams.{Supply, supply_of, supply_after_take};
 
 use mm_bytes::{Failed, Memory};

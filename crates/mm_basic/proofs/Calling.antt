@@ -1,30 +1,124 @@
--- What a call finds over the platform is what is found by digests, but for want of memory.
-use Rattle.mm_basic.proofs.Below.{◌≡◌, ℕ, ◌+◌, Bool, true, false, List, [], ◌∷◌, map, length, Some, Result, Ok, Err, inl, inr, refl, sym}
-use Rattle.mm_basic.proofs.Below.{ap, ◌∙◌, subst, nat_le, bytes_eq, bytes_eq-Decides, last_position, Basic, Meaning, Batch, size_of}
-use Rattle.mm_basic.proofs.Below.{normal_batch, Cell, IsCell, cell_spelling, PartsFault, Form, Kind, Place, InBasic, InOpt, Content}
-use Rattle.mm_basic.proofs.Below.{Snapshot, ReadsParts, variant_of, tag_of, extended_digest_of, Item, Standing, length-link, DeviceStep}
-use Rattle.mm_basic.proofs.Below.{Writes, link, Instance, basic_instance, Commit, Foreign, Digests, digests_after, verdict_by}
-use Rattle.mm_basic.proofs.Below.{basic_verdict, digest_of, BatchAnswer, Refusal, Verdict, IsOrMemory, state_after_moves, digest_level}
-use Rattle.mm_basic.proofs.Below.{AsFound, lacks_in, brought_digests, cell_at, StandsAt, weighed_only, OpFinding, Repeat, Change, Writing}
-use Rattle.mm_basic.proofs.Below.{BasicSight, finding_in, finding_from, answer_of, committed_cell, basic_call, SpellsCell, ReadsCell}
-use Rattle.mm_basic.proofs.Below.{IsCellOf, NoCell, OtherCell, NoOffer, Both, IsSeen as IsSight, if◌then◌else◌, linked_summary, summary_in}
-use Rattle.mm_basic.proofs.Below.{verdict_by_digests, zero_bytes}
+-- What a call finds over the platform is what is found by digests, but for want of memory. With it:
+-- what is found, by what the offer is examined to.
 use Rattle.std.specs.List.{fold}
 use Rattle.std.specs.Prelude.{◌&&◌}
-use Rattle.mm_module.specs.BatchLaws.{members_of-normal}
-use Rattle.mm_seal.specs.Parts.{parts_of}
+use Rattle.std.proofs.lemmas.Bool.Decides.{nat_tests}
+use Rattle.mm_seal.specs.CellLaws.{reads_cell-same}
 use Rattle.mm_seal.specs.FieldLaws.{reads_parts}
+use Rattle.mm_seal.specs.Parts.{parts_of}
+use Rattle.mm_seal.specs.SnapshotLaws.{reads_parts-same}
+use Rattle.mm_seal.specs.declared.cell.CellFault.{CellFault}
+use Rattle.mm_module.specs.RunLaws.{members_of-normal}
+use Rattle.mm_machine.specs.OpSteps.{CellSays, has_extension}
+use Rattle.mm_model.specs.FormLaws.{is_fit}
+use Rattle.mm_model.specs.declared.refusal.Refusal.TheVariants.{Device, Long}
 use Rattle.mm_model.specs.declared.refusal.Refusal.TheVariants as refusal
 use Rattle.mm_model.specs.declared.verdict.Verdict.TheVariants.{Fresh, Again}
-use Rattle.mm_call.specs.OrderWords.{check_by_tests}
-use Rattle.mm_call.specs.Answers.{answer_at}
-use Rattle.mm_call.specs.Trails.{IsWrite}
+use Rattle.mm_call.specs.CallFinding.{check_by_tests, answer_at}
 use Rattle.mm_call.specs.CallFinding as call
-use Rattle.mm_call.specs.CallFindingWords as call_words
-use Rattle.mm_seal.specs.declared.cell.CellFault.{CellFault}
-use Rattle.mm_seal.specs.CellLaws.{reads_cell-same}
-use Rattle.mm_seal.specs.SnapshotLaws.{reads_parts-same}
-use Rattle.mm_basic.proofs.Findings.{Finds}
+use Rattle.mm_call.specs.Standing.{IsWrite}
+use Rattle.mm_basic.proofs.Below.{◌≡◌, ℕ, Bool, true, false, List, Result, Ok, Err, IsTrue, refl, sym, ap, subst, inl, inr, arith, Meaning}
+use Rattle.mm_basic.proofs.Below.{IsLawful, Batch, normal_batch, Blank, Form, InBasic, Content, Snapshot, IsFit, length-link, Refusal}
+use Rattle.mm_basic.proofs.Below.{Verdict, digest_of, BatchAnswer, is_extension_left, OpFinding, Repeat, Change, BasicSight, NoCell}
+use Rattle.mm_basic.proofs.Below.{NoOffer, Both, check_of_offer, summary_in, verdict_of, linked_summary, answer_of, committed_cell}
+use Rattle.mm_basic.proofs.Below.{finding_from, finding_in, IsOrMemory, FindsIn, weighed_only, Basic, Cell, IsCellOf, PartsFault}
+use Rattle.mm_basic.proofs.Below.{ReadsParts, SpellsCell, None, Standing, StepGoes, ReadCell, fault_in, ◌+◌, [], ◌∷◌, map, length, Some}
+use Rattle.mm_basic.proofs.Below.{◌∙◌, nat_le, bytes_eq, bytes_eq-Decides, last_position, size_of, IsCell, cell_spelling, Kind, Place}
+use Rattle.mm_basic.proofs.Below.{InOpt, variant_of, tag_of, extended_digest_of, Item, DeviceStep, Writes, link, Instance, basic_instance}
+use Rattle.mm_basic.proofs.Below.{Commit, Foreign, Digests, digests_after, verdict_by, basic_verdict, state_after_moves, digest_level}
+use Rattle.mm_basic.proofs.Below.{AsFound, lacks_in, brought_digests, cell_at, StandsAt, Writing, basic_call, ReadsCell, OtherCell}
+use Rattle.mm_basic.proofs.Below.{IsSeen as IsSight, if◌then◌else◌, verdict_by_digests, zero_bytes}
+
+-- What is found, by what the offer is examined to.
+
+-- An answer found says whether it is a repeat's, and is fit; no own extension is to come; and no batch is found to be too long.
+abbrev pub IsShaped : Meaning → Batch → Result (OpFinding BatchAnswer) Refusal → Type 0
+IsShaped meaning b (Err Long) = ⊥
+IsShaped meaning b (Err why) = Unit {0}
+IsShaped meaning b (Ok (Repeat answer)) = (answer.again ≡ true) × (IsLawful meaning → IsFit b answer)
+IsShaped meaning b (Ok (Change ready)) =
+    (ready.answer.again ≡ false) × (IsLawful meaning → IsFit b ready.answer) × (is_extension_left ready.change ≡ false)
+
+never_long : (spelled tagged : Bool) (verdict : Verdict) (fits : Bool) → check_by_tests spelled tagged verdict fits ≡ Err Long → ⊥
+never_long spelled tagged verdict fits e = grind (arith, e)
+
+shaped_refused : (meaning : Meaning) (b : Batch) (why : Refusal) → (why ≡ Long → ⊥) → IsShaped meaning b (Err why)
+shaped_refused meaning b Long never = absurd (never refl)
+shaped_refused meaning b _ never = tt
+
+shaped_from : (meaning : Meaning) (key next : List ℕ) (offered : Content) (b : Batch) (e : Result Bool Refusal) → (e ≡ Err Long → ⊥)
+    → ((again : Bool) → e ≡ Ok again → IsLawful meaning → IsFit b (answer_of meaning key offered b again))
+    → IsShaped meaning b (finding_from e next (answer_of meaning key offered b))
+shaped_from meaning key next offered b (Err why) never h =
+    shaped_refused meaning b why (λ (e : why ≡ Long). never (ap (λ (w : Refusal). Err w) e))
+shaped_from meaning key next offered b (Ok true) never h = (refl, h true refl)
+shaped_from meaning key next offered b (Ok false) never h = (refl, h false refl, refl)
+
+-- an offer that is accepted leads to a fit answer
+accepted_fit : (meaning : Meaning) (key : List ℕ) (offered : Snapshot) (b : Batch) (verdict : Verdict) (again : Bool)
+    → check_of_offer meaning key offered b verdict ≡ Ok again → IsLawful meaning → IsFit b (answer_of meaning key offered.content b again)
+accepted_fit meaning key offered b verdict again e lawful =
+    let a = weighed_only _ _ _ _ again e in
+    is_fit meaning lawful key offered.content.state offered.content.position (InBasic (digest_of (linked_summary offered.content b))) b
+    again
+    (length-link (summary_in offered.content.place) (normal_batch b))
+    (subst (λ (t : Bool). IsTrue t) (sym a.spelled) refl)
+    (grind (arith, nat_tests, a.fitting))
+
+shaped_in : (meaning : Meaning) (seen : BasicSight) (b : Batch) → IsShaped meaning b (finding_in meaning seen b)
+shaped_in meaning (NoCell Blank) b = tt
+shaped_in meaning (NoOffer Form) b = tt
+shaped_in meaning (Both cell offered) b =
+    shaped_from meaning cell.key (committed_cell cell offered.content b) offered.content b
+    (check_of_offer meaning cell.key offered b (verdict_of cell offered b))
+    (λ (e : check_of_offer meaning cell.key offered b (verdict_of cell offered b) ≡ Err Long).
+    never_long (meaning.is_spelled offered.content.state) _ (verdict_of cell offered b) _ e)
+    (accepted_fit meaning cell.key offered b (verdict_of cell offered b))
+shaped_in meaning _ b = tt
+
+shaped_or : (meaning : Meaning) (b : Batch) (x found : Result (OpFinding BatchAnswer) Refusal) → IsShaped meaning b x → IsOrMemory x found
+    → IsShaped meaning b found
+shaped_or meaning b (Err why) found h o = rw o h
+shaped_or meaning b (Ok it) found h (inl e) = rw e h
+shaped_or meaning b (Ok it) found h (inr e) = rw e tt
+
+pub shaped : (meaning : Meaning) (bytes offer : List ℕ) (b : Batch) (found : Result (OpFinding BatchAnswer) Refusal)
+    → FindsIn meaning bytes offer b found → IsShaped meaning b found
+shaped meaning bytes offer b found f =
+    shaped_or meaning b (finding_in meaning f.seen b) found (shaped_in meaning f.seen b) f.found_is
+
+-- so no own extension is to come behind what is found
+pub extends_none : (meaning : Meaning) (b : Batch) (it : OpFinding BatchAnswer) → IsShaped meaning b (Ok it) → has_extension it ≡ false
+extends_none meaning b (Repeat answer) s = refl
+extends_none meaning b (Change ready) s = s.2
+
+-- What is found on a platform, whose cell is read; and the step that reads it.
+abbrev pub Finds : Meaning → Standing → List ℕ → Batch → Result (OpFinding BatchAnswer) Refusal → Type 0
+Finds meaning old offer b found = CellSays old (λ bytes. FindsIn meaning bytes offer b found)
+
+pub record Finding (meaning : Meaning) (old new : Standing) (offer : List ℕ) (b : Batch)
+    (found : Result (OpFinding BatchAnswer) Refusal) : Type 0
+  where
+    pub goes : StepGoes ReadCell old new (fault_in found)
+    pub finds : fault_in found ≡ None → Finds meaning old offer b found
+
+pub finding_shaped : (meaning : Meaning) (old new : Standing) (offer : List ℕ) (b : Batch) (found : Result (OpFinding BatchAnswer) Refusal)
+    → Finding meaning old new offer b found → IsShaped meaning b found
+finding_shaped meaning old new offer b (Err (Device fault)) r = tt
+finding_shaped meaning old new offer b found r = let f = r.finds refl in shaped meaning f.bytes offer b found f.said
+
+-- an offer that is none to this module
+pub no_offer : (meaning : Meaning) (bytes offer : List ℕ) (b : Batch) (id : ℕ) (cell : Cell) (fault : PartsFault)
+    (found : Result (OpFinding BatchAnswer) Refusal) → id ≡ meaning.id → SpellsCell bytes cell → IsCellOf id cell
+    → ReadsParts offer Basic id (Err fault)
+    → IsOrMemory (finding_in meaning (NoOffer fault) b) found → FindsIn meaning bytes offer b found
+no_offer meaning bytes offer b id cell fault found e spells is reads o = record {
+  seen = NoOffer fault;
+  is_seen = (cell, spells, subst (λ (n : ℕ). IsCellOf n cell) e is, subst (λ (n : ℕ). ReadsParts offer Basic n (Err fault)) e reads);
+  found_is = o;
+}
+
+-- What a call finds over the platform is what is found by digests, but for want of memory.
 
 -- There is one way to see a cell and an offer.
 
@@ -110,7 +204,7 @@ module _ (meaning : Meaning) (key : List ℕ) (d : Digests) (b : Batch) where
       → (e ≡ Ok false → linked_summary offered b ≡ link d.digest (normal_batch b))
       → (e ≡ Ok true → linked_summary offered b ≡ d.digest)
       → finding_from e (committed_cell (cell_at i d) offered b) (answer_of meaning key offered b)
-      ≡ given i d (normal_batch b) (call_words.finding_with offered e)
+      ≡ given i d (normal_batch b) (call.finding_with offered e)
   found_examined offered (Err why) f r = refl
   found_examined offered (Ok true) f r =
       ap (λ (x : BatchAnswer). Ok (Repeat x)) (answer_is meaning key offered (linked_summary offered b) d.digest b true (r refl))
@@ -133,7 +227,7 @@ module _ (meaning : Meaning) (key : List ℕ) (d : Digests) (b : Batch) where
       let s : Bool = meaning.is_spelled offered.state in
       let t : Bool = bytes_eq snapshot.tag (tag_of key offered) in
       let few : ℕ → Bool = λ n. nat_le (offered.position + n) last_position in
-      let same = λ (x : Result Bool Refusal). given i d (normal_batch b) (call_words.finding_with offered x) in
+      let same = λ (x : Result Bool Refusal). given i d (normal_batch b) (call.finding_with offered x) in
       found_examined offered (check_by_tests s t v (few (size_of b)))
       (λ e. fresh_summary (summary_in offered.place) d.digest (normal_batch b) (weighed_only s t v (few (size_of b)) false e).verdict)
       (λ e. again_summary (summary_in offered.place) d.digest (normal_batch b) (weighed_only s t v (few (size_of b)) true e).verdict)
@@ -182,7 +276,7 @@ as_given : (meaning : Meaning) (key : List ℕ) (d : Digests) (b : Batch) (offer
     → IsCell (cell_at (basic_instance meaning key) d)
     → AsFound basic_call (basic_instance meaning key) d b (Ok (record { offered = offered; again = again }))
     (Ok (found_as (basic_instance meaning key) d offered again b))
-    (writing (call_words.is_fresh (Ok (record { offered = offered; again = again }))) b)
+    (writing (call.is_fresh (Ok (record { offered = offered; again = again }))) b)
 as_given meaning key d b offered true is = (true, record { offered = offered; found_is = refl; answer_is = refl }, tt)
 as_given meaning key d b offered false is = (
   false,
@@ -193,8 +287,8 @@ as_given meaning key d b offered false is = (
 -- what is found is what the call finds by digests, or memory is wanting
 abbrev pub IsSeen : Meaning → List ℕ → Digests → Batch → Result call.CallFinding Refusal → Result (OpFinding BatchAnswer) Refusal → Type 0
 IsSeen meaning key d b x found =
-    let y : Result call.CallFinding Refusal = call_words.finding_unless_wanting x (lacks_in found) in
-    AsFound basic_call (basic_instance meaning key) d b y found (writing (call_words.is_fresh y) b)
+    let y : Result call.CallFinding Refusal = call.finding_unless_wanting x (lacks_in found) in
+    AsFound basic_call (basic_instance meaning key) d b y found (writing (call.is_fresh y) b)
 
 as_found : (meaning : Meaning) (key : List ℕ) (d : Digests) (b : Batch) (x : Result call.CallFinding Refusal)
     (found : Result (OpFinding BatchAnswer) Refusal)

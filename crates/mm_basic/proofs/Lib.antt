@@ -1,9 +1,5 @@
 pub mod Above
 mod Below
-mod Findings
+mod Calling
 mod Telling
 mod Asking
-mod FirstLaws
-mod Completeness
-mod Calling
-mod Going

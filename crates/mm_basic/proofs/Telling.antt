@@ -1,11 +1,7 @@
--- What the machine tells of a call of Basic: its reading step, and where each step leads.
-use Rattle.mm_basic.proofs.Below.{◌≡◌, ◌+◌, ℕ, Bool, true, false, List, Option, None, Some, Result, Ok, Err, refl, sym, ap, subst, Standing}
-use Rattle.mm_basic.proofs.Below.{ReadCell, StepGoes, StepFault, Meaning, Batch, BatchAnswer, Refusal, Deed, Writing, is_extension_left}
-use Rattle.mm_basic.proofs.Below.{OpFinding, Repeat, Change, ReadyChange, Halt, Cell, fault_in, finding_of_machine, basic_operation}
-use Rattle.mm_basic.proofs.Below.{ExtendsNothing}
-use Rattle.mm_model.specs.declared.refusal.Refusal.TheVariants as refusal
-use Rattle.mm_machine.specs.OpReads.{SightFinds, OpLooks, RoomIsMadeIf, RoomIsMadeFor, OpWeighs, has_extension}
-use Rattle.mm_machine.specs.OpSteps.{SightLeads, OpSteps, number_of, step_of_finding, step_after_change, step_to}
+-- What the machine tells of a call of Basic: its reading step, and where each step leads. With it:
+-- the first cell and snapshot.
+use Rattle.mm_machine.specs.OpSteps.{SightFinds, OpLooks, RoomIsMadeIf, RoomIsMadeFor, OpWeighs, has_extension, SightLeads, OpSteps}
+use Rattle.mm_machine.specs.OpSteps.{number_of, step_of_finding, step_after_change, step_to}
 use Rattle.mm_machine.specs.declared.call.OpStage.{OpStage}
 use Rattle.mm_machine.specs.declared.call.OpStage.TheVariants as stage
 use Rattle.mm_machine.specs.declared.call.StepResult.{StepResult}
@@ -13,11 +9,18 @@ use Rattle.mm_machine.specs.declared.call.StepResult.TheVariants.{Going, Over}
 use Rattle.mm_machine.specs.declared.operation.Sight.{Sight}
 use Rattle.mm_machine.specs.declared.operation.Sight.TheVariants as sight
 use Rattle.mm_machine.specs.declared.reading.Halt.TheVariants as halt
-use Rattle.mm_call.specs.Machine.{CallReads}
+use Rattle.mm_model.specs.declared.refusal.Refusal.TheVariants as refusal
+use Rattle.mm_call.specs.CallKind.{CallReads}
+use Rattle.mm_call.specs.Checkpoints.{CallTurn, IsCallTurn, turn_of}
+use Rattle.mm_call.specs.OfferLaws.{summary-nil}
 use Rattle.mm_call.proofs.Above as told
-use Rattle.mm_call.specs.CallTurn.{CallTurn, IsCallTurn, turn_of}
-use Rattle.mm_basic.specs.TurnPromise.{BasicTurnPromise, StepExtendsNothing}
-use Rattle.mm_basic.proofs.Findings.{Finding, Finds, extends_none, finding_shaped, shaped}
+use Rattle.mm_basic.specs.AskPromise.{BasicTurnPromise, StepExtendsNothing}
+use Rattle.mm_basic.proofs.Below.{◌≡◌, ◌+◌, ℕ, Bool, true, false, List, Option, None, Some, Result, Ok, Err, refl, sym, ap, subst, Standing}
+use Rattle.mm_basic.proofs.Below.{ReadCell, StepGoes, StepFault, Meaning, Batch, BatchAnswer, Refusal, Deed, Writing, is_extension_left}
+use Rattle.mm_basic.proofs.Below.{OpFinding, Repeat, Change, ReadyChange, Halt, Cell, fault_in, finding_of_machine, basic_operation}
+use Rattle.mm_basic.proofs.Below.{ExtendsNothing, [], ◌∙◌, Digest, Basic, zero_bytes, start_digest_of, InBasic, cell_spelling, Content}
+use Rattle.mm_basic.proofs.Below.{sealed_snapshot_of, summary_of, basic_instance, first_history, digest_of, cell_of, issued_bytes}
+use Rattle.mm_basic.proofs.Calling.{Finding, Finds, extends_none, finding_shaped, shaped}
 
 -- no room is made then, and none is taken
 
@@ -131,3 +134,27 @@ module _ (meaning : Meaning) (offer : List ℕ) (b : Batch) where
   advanced call old new step turn s gives =
       let t : IsCallTurn (basic_operation meaning offer b) call old new turn = record { step = step; steps = s; gives = gives } in
       record { turns = t; faults = told.turn_blamed (basic_operation meaning offer b) quiet call old new turn t }
+
+-- The first cell and snapshot.
+
+first_digest : (id said : ℕ) (summary : Digest) → said ≡ id → summary.bytes ≡ start_digest_of Basic said
+    → summary ≡ digest_of (summary_of id [])
+first_digest id said summary id_is start_is = ap digest_of (start_is ∙ ap (start_digest_of Basic) id_is ∙ summary-nil id)
+
+abbrev pub made_cell : ℕ → Digest → List ℕ → List ℕ → Cell
+made_cell id summary key barrier = record { variant = Basic; «module» = id; flag = false; summary = summary; key = key; barrier = barrier }
+
+abbrev pub made_content : Meaning → Digest → Content
+made_content meaning summary = record { id = meaning.id; place = InBasic summary; position = 0; state = meaning.first }
+
+module _ (meaning : Meaning) (said : ℕ) (summary : Digest) (key : List ℕ) (id_is : said ≡ meaning.id)
+    (start_is : summary.bytes ≡ start_digest_of Basic said)
+  where
+    pub first_cell : (barrier : List ℕ) → barrier ≡ zero_bytes
+        → cell_spelling (made_cell said summary key barrier) ≡ cell_spelling (cell_of (basic_instance meaning key) first_history)
+    first_cell barrier barrier_is =
+        let d = first_digest meaning.id said summary id_is start_is in λ j. cell_spelling (made_cell (id_is j) (d j) key (barrier_is j))
+
+    pub first_snapshot : sealed_snapshot_of key (made_content meaning summary) ≡ issued_bytes (basic_instance meaning key) first_history
+    first_snapshot =
+        let d = first_digest meaning.id said summary id_is start_is in λ j. sealed_snapshot_of key (made_content meaning (d j))

@@ -14,13 +14,9 @@ pub use Rattle.mm_module.specs.Batch.{Batch, normal_batch}
 pub use Rattle.mm_module.specs.Meaning.{Meaning}
 pub use Rattle.mm_model.specs.Chains.{link}
 pub use Rattle.mm_model.specs.Verdicts.{basic_verdict}
-pub use Rattle.mm_model.specs.PlacesWords.{digest_of}
+pub use Rattle.mm_model.specs.Standing.{digest_of}
 pub use Rattle.mm_model.specs.declared.answer.BatchAnswer.{BatchAnswer}
 pub use Rattle.mm_model.specs.declared.refusal.Refusal.{Refusal}
 pub use Rattle.mm_model.specs.declared.verdict.Verdict.{Verdict}
-pub use Rattle.mm_call.specs.Answers.{answer_at}
-pub use Rattle.mm_call.specs.CallKind.{CallKind}
-pub use Rattle.mm_call.specs.Machine.{call_kind}
-pub use Rattle.mm_call.specs.Untouched.{CountsHandedFault}
-pub use Rattle.mm_call.specs.Order.{check_of_offer}
-pub use Rattle.mm_call.specs.Refusals.{IsOrMemory, fault_of}
+pub use Rattle.mm_call.specs.CallFinding.{answer_at, CountsHandedFault, check_of_offer, IsOrMemory, fault_of}
+pub use Rattle.mm_call.specs.CallKind.{CallKind, call_kind}

@@ -1,9 +1,4 @@
 pub mod Below
 pub mod BasicSight
-pub mod Order
-pub mod Answers
-pub mod Steps
 pub mod Operation
-pub mod BasicCall
 pub mod AskPromise
-pub mod TurnPromise

@@ -2,10 +2,10 @@
 
 ghost use Rattle.std.specs.Prelude.{◌≡◌, true, false, IfOk, IfErr};
 ghost use Rattle.mm_module.specs.Batches.{batch_of};
-ghost use Rattle.mm_model.specs.Long.{is_long};
+ghost use Rattle.mm_model.specs.Moves.{is_long};
 ghost use Rattle.mm_machine.specs.declared.call.OpStage.TheVariants.{Begun};
-ghost use Rattle.mm_call.specs.CallTurn.{turn_of};
-ghost use Rattle.mm_basic.specs.TurnPromise.{StepExtendsNothing};
+ghost use Rattle.mm_call.specs.Checkpoints.{turn_of};
+ghost use Rattle.mm_basic.specs.AskPromise.{StepExtendsNothing};
 
 use crate::operation::BasicAsk;
 use mm_call::{AskResult, KeptKey};
@@ -55,9 +55,9 @@ pub fn begin(batch: Batch<'_>) -> Result<Call, Refusal>
 impl Call {
     ghost use Rattle.std.specs.Prelude.{◌≡◌, false};
     ghost use Rattle.mm_module.specs.Batches.{batch_of};
-    ghost use Rattle.mm_model.specs.Long.{is_long};
+    ghost use Rattle.mm_model.specs.Moves.{is_long};
     ghost use Rattle.mm_machine.specs.OpSteps.{number_of};
-    ghost use Rattle.mm_basic.specs.TurnPromise.{BasicTurnPromise};
+    ghost use Rattle.mm_basic.specs.AskPromise.{BasicTurnPromise};
 
     /// The number of the next device step, from 1.
     pub fn next_step(&self) -> u8

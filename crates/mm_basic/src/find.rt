@@ -9,10 +9,8 @@ ghost use Rattle.mm_seal.specs.Cell.{SpellsCell};
 ghost use Rattle.mm_seal.specs.Snapshot.{variant_of};
 ghost use Rattle.mm_model.specs.Verdicts.{verdict_by};
 ghost use Rattle.mm_basic.specs.BasicSight.{IsCellOf, Both};
-ghost use Rattle.mm_basic.specs.Order.{summary_in};
-ghost use Rattle.mm_basic.specs.Answers.{finding_in};
-ghost use Rattle.mm_basic.specs.Steps.{FindsIn};
-ghost use Rattle.mm_call.specs.Refusals.{IsOrMemory, fault_in};
+ghost use Rattle.mm_basic.specs.Operation.{summary_in, finding_in, FindsIn};
+ghost use Rattle.mm_call.specs.CallFinding.{IsOrMemory, fault_in};
 
 use crate::operation::BasicAsk;
 use mm_bytes::CELL_LENGTH;

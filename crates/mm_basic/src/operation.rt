@@ -2,7 +2,7 @@
 
 ghost use Rattle.std.specs.Prelude.{◌≡◌, false};
 ghost use Rattle.mm_module.specs.Batches.{batch_of};
-ghost use Rattle.mm_model.specs.Long.{is_long};
+ghost use Rattle.mm_model.specs.Moves.{is_long};
 
 use crate::find::find;
 use mm_bytes::CELL_LENGTH;

@@ -2,16 +2,13 @@
 
 ghost use Rattle.std.specs.Prelude.{◌≡◌, true, false, Err, IfOk};
 ghost use Rattle.std.specs.Result.{result_err};
-ghost use Rattle.mm_machine.specs.Prepared.{StandsAsPrepared, found_in};
+ghost use Rattle.mm_machine.specs.OpSteps.{StandsAsPrepared, found_in};
 ghost use Rattle.mm_module.specs.Batch.{One};
 ghost use Rattle.mm_module.specs.Batches.{batch_of};
-ghost use Rattle.mm_model.specs.Long.{is_long};
-ghost use Rattle.mm_call.specs.Refusals.{fault_in};
-ghost use Rattle.mm_call.specs.CallKind.{CommitsFinding, IsCallSoFar};
-ghost use Rattle.mm_call.specs.Untouched.{CountsHandedFault, batch_result_of};
-ghost use Rattle.mm_call.specs.Machine.{CallReads, acts_for, answer_in};
-ghost use Rattle.mm_basic.specs.AskPromise.{BasicAskPromise};
-ghost use Rattle.mm_basic.specs.BasicCall.{basic_call};
+ghost use Rattle.mm_model.specs.Moves.{is_long};
+ghost use Rattle.mm_call.specs.CallFinding.{fault_in, CountsHandedFault, batch_result_of};
+ghost use Rattle.mm_call.specs.CallKind.{CommitsFinding, IsCallSoFar, CallReads, acts_for, answer_in};
+ghost use Rattle.mm_basic.specs.AskPromise.{BasicAskPromise, basic_call};
 ghost use Rattle.mm_basic.specs.Operation.{basic_operation};
 
 use crate::operation::BasicAsk;
@@ -32,7 +29,7 @@ pub struct Prepared {
 
 impl Model for Prepared {
     ghost use Rattle.std.specs.Prelude.{◌≡◌, false};
-    ghost use Rattle.mm_machine.specs.OpReads.{has_extension};
+    ghost use Rattle.mm_machine.specs.OpSteps.{has_extension};
     ghost use Rattle.mm_machine.specs.declared.reading.OpPrepared.{OpPrepared};
     ghost use Rattle.mm_model.specs.declared.answer.BatchAnswer.{BatchAnswer};
 

@@ -1,17 +1,22 @@
--- A decimal is what std's `decimal` spells, and no other text.
-use Rattle.std.proofs.Common.{subst, ◌≡◌, ◌≢◌, ◌<◌, ◌^◌, ℕ, Bool, true, false, List, [], ◌∷◌, length, get_or, refl, sym, ap, ◌∙◌, arith, rules}
-use Rattle.std.proofs.Common.{◌⊎◌, inl, inr, cond, ◌&&◌, nat_lt, lit<, zero, suc}
-use Rattle.std.proofs.lemmas.Grind.{common_steps}
+-- A decimal is what std's `decimal` spells, and no other text. With it: laws of fields of fixed
+-- length.
+use Rattle.std.specs.Char.{digit_value, is_ascii_digit}
+use Rattle.std.specs.Fmt.{decimal}
+use Rattle.std.specs.Int.{w32, w64, from_be_bytes}
+use Rattle.std.specs.List.{list_all}
+use Rattle.std.specs.Prelude.{◌+◌, ◌-◌, ◌*◌, ◌≤◌, Some, None, IsTrue}
+use Rattle.std.specs.Str.Parse.{digits_value, digits_value_after}
+use Rattle.std.proofs.Common.{subst, ◌≡◌, ◌≢◌, ◌<◌, ◌^◌, ℕ, Bool, true, false, List, [], ◌∷◌, length, get_or, refl, sym, ap, ◌∙◌, arith}
+use Rattle.std.proofs.Common.{rules, ◌⊎◌, inl, inr, cond, ◌&&◌, nat_lt, lit<, zero, suc, ◌++◌, take, drop}
+use Rattle.std.proofs.lemmas.Bool.{cases_lt}
 use Rattle.std.proofs.lemmas.Bool.Decides.{nat_tests}
 use Rattle.std.proofs.lemmas.Fmt.{decimal-digits_value, digits_decimal, digits_value-decimal, first_decimal, decimal_digit}
 use Rattle.std.proofs.lemmas.Fmt.{decimal_nonempty}
+use Rattle.std.proofs.lemmas.Grind.{common_steps}
+use Rattle.std.proofs.lemmas.List.{take-append-drop, get_or-take, get_or_past}
+use Rattle.std.proofs.lemmas.Nat.{be_bytes_4, be_bytes_8, from_be_bytes-to_be_bytes_4, from_be_bytes-to_be_bytes_8}
 use Rattle.std.proofs.lemmas.Str.Parse.{IsNumeralModel, numerals_by_value}
-use Rattle.std.specs.Prelude.{◌+◌, ◌-◌, ◌*◌, ◌≤◌, Some, None, IsTrue}
-use Rattle.std.specs.Char.{digit_value, is_ascii_digit}
-use Rattle.std.specs.Fmt.{decimal}
-use Rattle.std.specs.List.{list_all}
-use Rattle.std.specs.Str.Parse.{digits_value, digits_value_after}
-use Rattle.mm_bytes.specs.Decimals.{is_decimal, decimal_number, within_64_bits}
+use Rattle.mm_bytes.specs.Limits.{is_decimal, decimal_number, within_64_bits, eight_bytes, four_bytes}
 
 -- a text of digits, and its value
 abbrev AreDigits : List ℕ → Type 0
@@ -109,3 +114,63 @@ pub too_great_with : (n d : ℕ) (ds digits : List ℕ) → digits ≡ d ∷ ds 
 too_great_with n d ds digits is are great =
     rw (is, digit_behind n d ds (first_digit d ds (subst (λ (l : List ℕ). IsTrue (list_all is_ascii_digit l)) is are)))
     (too_great (n * 10 + (d - 48)) ds (omega arith))
+
+-- Laws of fields of fixed length.
+
+-- a front and what follows it make the whole
+pub joined : (n : ℕ) (bytes front rest : List ℕ) → front ≡ take n bytes → rest ≡ drop n bytes → bytes ≡ front ++ rest
+joined n bytes front rest e f =
+    sym (take-append-drop n bytes) ∙ ap (λ (x : List ℕ). x ++ drop n bytes) (sym e)
+    ∙ ap (λ (x : List ℕ). front ++ x) (sym f)
+
+pub length-eight_bytes : (n : ℕ) → length (eight_bytes n) ≡ 8
+unfolding eight_bytes
+length-eight_bytes n = refl
+
+pub length-four_bytes : (n : ℕ) → length (four_bytes n) ≡ 4
+unfolding four_bytes
+length-four_bytes n = refl
+
+pub eight_bytes-injective : (m n : ℕ) → m < 2 ^ 64 → n < 2 ^ 64 → eight_bytes m ≡ eight_bytes n → m ≡ n
+unfolding eight_bytes
+eight_bytes-injective m n h k e =
+    sym (from_be_bytes-to_be_bytes_8 m h) ∙ ap (λ (x : List ℕ). from_be_bytes w64 x) e
+    ∙ from_be_bytes-to_be_bytes_8 n k
+
+pub four_bytes-injective : (m n : ℕ) → m < 2 ^ 32 → n < 2 ^ 32 → four_bytes m ≡ four_bytes n → m ≡ n
+unfolding four_bytes
+four_bytes-injective m n h k e =
+    sym (from_be_bytes-to_be_bytes_4 m h) ∙ ap (λ (x : List ℕ). from_be_bytes w32 x) e
+    ∙ from_be_bytes-to_be_bytes_4 n k
+
+-- the bytes of a part are bytes
+bytes_of_part : (n : ℕ) (bytes part : List ℕ) → ((i : ℕ) → get_or bytes i 0 < 256) → part ≡ take n bytes →
+    length part ≡ n → (i : ℕ) → get_or part i 0 < 256
+bytes_of_part n bytes part h e l i =
+    elim (cases_lt i n) [
+      | inl below ↦ (rw e (rw (get_or-take n bytes i 0 below) (h i)))
+      | inr past ↦
+          (let P : ℕ → Type 0 = λ x. x < 256 in
+          subst P (sym (get_or_past part i 0 (omega arith))) (lit< tt))
+    ]
+
+-- a part of eight bytes is that of its number
+pub eight_bytes-front : (bytes front : List ℕ) (n : ℕ) → ((i : ℕ) → get_or bytes i 0 < 256) →
+    front ≡ take 8 bytes → length front ≡ 8 → n ≡ from_be_bytes w64 front → eight_bytes n ≡ front
+unfolding eight_bytes
+eight_bytes-front bytes front n h e l k = be_bytes_8 front n l (bytes_of_part 8 bytes front h e l) k
+
+-- a part of four bytes is that of its number
+pub four_bytes-front : (bytes front : List ℕ) (n : ℕ) → ((i : ℕ) → get_or bytes i 0 < 256) →
+    front ≡ take 4 bytes → length front ≡ 4 → n ≡ from_be_bytes w32 front → four_bytes n ≡ front
+unfolding four_bytes
+four_bytes-front bytes front n h e l k = be_bytes_4 front n l (bytes_of_part 4 bytes front h e l) k
+
+-- two parts of one length at the front of one list are one part, and so is what follows
+pub append-injective : (a b c d : List ℕ) → length a ≡ length b → a ++ c ≡ b ++ d → (a ≡ b) × (c ≡ d)
+append-injective [] [] c d h e = (refl, e)
+append-injective [] (y ∷ b) c d h e = absurd (omega arith)
+append-injective (x ∷ a) [] c d h e = absurd (omega arith)
+append-injective (x ∷ a) (y ∷ b) c d h e =
+    let rest = append-injective a b c d (omega arith) (ap (λ (z : List ℕ). drop 1 z) e) in
+    (ap (λ (z : List ℕ). get_or z 0 0 ∷ a) e ∙ ap (λ (z : List ℕ). y ∷ z) rest.0, rest.1)

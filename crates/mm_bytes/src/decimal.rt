@@ -5,7 +5,7 @@ ghost use Rattle.std.specs.Fmt.{decimal};
 ghost use Rattle.std.specs.Char.{is_ascii_digit};
 ghost use Rattle.std.specs.List.{list_all};
 ghost use Rattle.std.specs.Str.Parse.{digits_value_after};
-ghost use Rattle.mm_bytes.specs.Decimals.{is_decimal, decimal_number, within_64_bits};
+ghost use Rattle.mm_bytes.specs.Limits.{is_decimal, decimal_number, within_64_bits};
 
 use crate::bytes::Bytes;
 use crate::fault::Memory;

@@ -1,7 +1,7 @@
 //! Numbers of 4 and of 8 bytes, the highest byte first.
 
 ghost use Rattle.std.specs.Prelude.{◌≡◌, ◌<◌, ◌^◌, ◌++◌, length, MatchOption};
-ghost use Rattle.mm_bytes.specs.Fields.{eight_bytes, four_bytes};
+ghost use Rattle.mm_bytes.specs.Limits.{eight_bytes, four_bytes};
 
 /// The number in the 8 bytes in front, and the rest. None exactly where there are fewer bytes.
 pub fn split_u64(bytes: &[u8]) -> Option<(u64, &[u8])>
@@ -22,7 +22,7 @@ pub fn split_u32(bytes: &[u8]) -> Option<(u32, &[u8])>
 }
 
 /// The number in 8 bytes.
-#[tactic(auto, unfolding(crate::specs::Fields::eight_bytes))]
+#[tactic(auto, unfolding(crate::specs::Limits::eight_bytes))]
 pub fn bytes_of_u64(n: u64) -> [u8; 8]
     ensures { result ≡ eight_bytes n }
 {
@@ -30,7 +30,7 @@ pub fn bytes_of_u64(n: u64) -> [u8; 8]
 }
 
 /// The number in 4 bytes.
-#[tactic(auto, unfolding(crate::specs::Fields::four_bytes))]
+#[tactic(auto, unfolding(crate::specs::Limits::four_bytes))]
 pub fn bytes_of_u32(n: u32) -> [u8; 4]
     ensures { result ≡ four_bytes n }
 {

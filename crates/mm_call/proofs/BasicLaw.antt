@@ -7,8 +7,8 @@ use Rattle.mm_call.proofs.Below.{DigestsAgree, CallFinding, finding_at, right_co
 use Rattle.mm_call.proofs.Below.{StepsWalk, walk, call_outcome, call_outcome_with, IsPlain, IsWithin, right_messages, IsSameCall}
 use Rattle.mm_call.proofs.Below.{BasicCallsAgree, IsBasicMove, agrees-made, plain-made, same_batches, more_batches, Commits, nothing, batch}
 use Rattle.mm_call.proofs.Below.{call_commits, foreign_first, GoesAlong, walk_along, batches-made, basic_names, history_after, link_message}
-use Rattle.mm_call.proofs.Finding.{Asking, basic_found_same, placed, Placed}
-use Rattle.mm_call.proofs.Calling.{summary_then, listed_push, listed_same, called_message, ending_same, fresh_found, ended_batches}
+use Rattle.mm_call.proofs.Finding.{Asking, basic_found_same, placed, Placed, summary_then, listed_push, listed_same, called_message}
+use Rattle.mm_call.proofs.Finding.{ending_same, fresh_found, ended_batches}
 use Rattle.mm_call.proofs.OptHolding.{foreign_digests}
 
 abbrev pub AreBasic : List Move → Type 0

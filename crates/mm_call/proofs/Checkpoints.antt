@@ -5,9 +5,8 @@ use Rattle.mm_call.proofs.Below.{DeviceStep, Reads, Writes, checkpoint_steps, li
 use Rattle.mm_call.proofs.Below.{End, Done, Fails, StepFate, Course, StepsWalk, walk_from_step, walk, has_close, IsPlain, IsWithin}
 use Rattle.mm_call.proofs.Below.{agrees-made, plain-made, committed_batches, same_batches, committed-foreign, finished_walk}
 use Rattle.mm_call.specs.Checkpoints.{CheckpointEnding, NoSegment, checkpoint_ending, checkpoint_outcome_by, checkpoint_outcome}
-use Rattle.mm_call.specs.Checkpoints.{IsClosedWithin, IsSameCheckpoint, BasicCheckpointsAgree, OptCheckpointsAgree}
+use Rattle.mm_call.specs.Checkpoints.{IsClosedWithin, IsSameCheckpoint, BasicCheckpointsAgree, OptCheckpointsAgree, checkpoint_ending_by}
 use Rattle.mm_call.proofs.OptHolding.{Holds, holds_open}
-use Rattle.mm_call.specs.CheckpointsWords.{checkpoint_ending_by}
 use Rattle.mm_call.proofs.Finding.{lost_same, not_lost}
 use Rattle.mm_call.proofs.OptWalks.{Ready, AreOwn, ready_closing, before, sight, sight_is}
 use Rattle.mm_call.proofs.BasicLaw.{AreBasic, basic-foreign, within_same}

@@ -10,13 +10,12 @@ use Rattle.mm_call.proofs.Below.{grown, asked_by, same_batches, more_batches, Co
 use Rattle.mm_call.proofs.Below.{inl, inr, option_map, Item, Standing, Value, Digests, AreShown, IsIdle, items_after_moves, standing_items}
 use Rattle.mm_call.proofs.Below.{Level, same_rest, MovesAreTied, shows, Opt}
 use Rattle.mm_call.proofs.BasicLaw.{AreBasic, unlacked, walk_basic, names_made}
-use Rattle.mm_call.proofs.Calling.{again_of, fresh_of, fresh_found}
-use Rattle.mm_call.proofs.Finding.{Asking, placed, right_at}
+use Rattle.mm_call.proofs.Finding.{again_of, fresh_of, fresh_found, Asking, placed, right_at}
 use Rattle.mm_call.proofs.OptLaw.{seen_asking, opt_calls_agree_by_lists}
 use Rattle.mm_call.proofs.OptHolding.{is_agrees, bare, found_lists}
 use Rattle.mm_call.proofs.OptShapes.{Brought, none_counted, reads_only, opt_tied}
 use Rattle.mm_call.proofs.OptWalks.{sight_is}
-use Rattle.mm_call.specs.ShownItems.{nothing as none_counts}
+use Rattle.mm_call.specs.CallPremises.{nothing as none_counts}
 
 -- an answer is given where an offer was accepted and no step failed
 pub record Answered {S : Type 0} (level : Level S) (seen s : S) (b : Batch) (found : Result CallFinding Refusal) (broken : Option StepFault)

@@ -14,7 +14,7 @@ use Rattle.mm_platform.specs.declared.plan.Stop.TheVariants.{Cut}
 use Rattle.std.specs.Prelude.{◌≤◌}
 use Rattle.std.proofs.Math.Nat.{min-eq_left}
 use Rattle.std.proofs.lemmas.Bool.Decides.{nat_tests}
-use Rattle.mm_call.specs.CoursesWords.{end_of}
+use Rattle.mm_call.specs.CallOutcome.{end_of}
 
 -- a refusal gives itself
 pub refused_result : (why : Refusal) → result_of (end_of_refusal why) ≡ Err why

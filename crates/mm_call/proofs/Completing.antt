@@ -1,20 +1,89 @@
--- A call that ended so over a platform is the call on a course, by digests and by lists.
-use Rattle.mm_call.proofs.Below.{◌≡◌, ℕ, ◌+◌, suc, Bool, true, false, List, [], ◌∷◌, map, Option, None, Some, Result, Ok, Err, IfOk, refl}
-use Rattle.mm_call.proofs.Below.{sym, ap, ◌∙◌, subst, arith, Variant, StepFault, Plan, Standing, Act, StepGoes, Meaning, Batch}
-use Rattle.mm_call.proofs.Below.{normal_batch, Content, Instance, Move, Foreign, Digests, DeviceStep, Reads, ask_steps, BatchAnswer}
-use Rattle.mm_call.proofs.Below.{Refusal, Long, Memory, AskResult, Answered, Refused, Broken, Breaks, call_outcome, call_ending_by}
-use Rattle.mm_call.proofs.Below.{result_of_ending, position_of, position_if_committed, CallKind, AreStepsToEnd, EndsByFinding, IsCallToEnd}
-use Rattle.mm_call.proofs.Below.{IsWholeCall, IsCallSoFar, CallGoesBy, IsCallOnCourse, Course, StepFate, StepsWalk, walk, has_commit}
-use Rattle.mm_call.proofs.Below.{result_of, end_by_fault, end_of_refusal, kept_position, KeepsPosition, EndsAsCall, CallFinding, is_fresh}
-use Rattle.mm_call.proofs.Below.{CallsAgree, IsUntouched, CallLeavesUntouched, CountsHandedFault, state_after_moves}
-use Rattle.mm_call.proofs.Below.{digest_level, fault_of, fault_in, instance_by, StandsAt, fates_before_plan, told_by, begins_at, MakesStep}
+-- A call that ended so over a platform is the call on a course, by digests and by lists. With it:
+-- what a call comes to by digests, from the trail of its steps.
 use Rattle.std.specs.Result.{result_err}
-use Rattle.mm_platform.specs.PlannedSteps.{next_plan}
-use Rattle.mm_model.specs.Long.{is_long}
+use Rattle.mm_platform.specs.Standing.{next_plan}
+use Rattle.mm_model.specs.Moves.{is_long}
 use Rattle.mm_call.specs.CallKind.{CommitsFinding}
+use Rattle.mm_call.proofs.Below.{◌≡◌, ℕ, List, Result, Option, sym, ap, ◌∙◌, StepFault, Standing, Batch, Instance, Move, Digests, ask_steps}
+use Rattle.mm_call.proofs.Below.{BatchAnswer, Refusal, state_after_moves, digest_level, CallFinding, finding_at, finding_unless_wanting}
+use Rattle.mm_call.proofs.Below.{is_fresh, Course, StepsWalk, walk, call_ending_by, call_outcome, state_seen, result_of_ending, StandsAt}
+use Rattle.mm_call.proofs.Below.{CallGoesBy, IsTrail, leads, refl, subst, Variant, Basic, Opt, History, register_value_of, digests_of}
+use Rattle.mm_call.proofs.Below.{RegisterStands, StandsFor, register_reading, list_level, CallOutcome, RegisterStandsAt, IsAsked}
+use Rattle.mm_call.proofs.Below.{CallContinues, CallsAgree, ◌+◌, suc, Bool, true, false, [], ◌∷◌, map, None, Some, Ok, Err, IfOk, arith}
+use Rattle.mm_call.proofs.Below.{Plan, Act, StepGoes, Meaning, normal_batch, Content, Foreign, DeviceStep, Reads, Long, Memory, AskResult}
+use Rattle.mm_call.proofs.Below.{Answered, Refused, Broken, Breaks, position_of, position_if_committed, CallKind, AreStepsToEnd}
+use Rattle.mm_call.proofs.Below.{EndsByFinding, IsCallToEnd, IsWholeCall, IsCallSoFar, IsCallOnCourse, StepFate, has_commit, result_of}
+use Rattle.mm_call.proofs.Below.{end_by_fault, end_of_refusal, kept_position, KeepsPosition, EndsAsCall, IsUntouched, CallLeavesUntouched}
+use Rattle.mm_call.proofs.Below.{CountsHandedFault, fault_of, fault_in, instance_by, fates_before_plan, told_by, begins_at, MakesStep}
 use Rattle.mm_call.proofs.Committing.{fate_of, steps_fates, ends_fates, Tale, steps_blamed, Given, steps_give, Walks, walks_on, walks_fail}
 use Rattle.mm_call.proofs.Committing.{MakesAll, steps_walk, refused_result}
-use Rattle.mm_call.proofs.Going.{continues_by, sees, finds, went}
+use Rattle.mm_call.proofs.OptHolding.{agrees_is, is_agrees}
+
+-- What a call comes to by digests, from the trail of its steps; and so by lists, under the law.
+
+-- what the call sees at its last reading step
+abbrev pub sees : Instance → Digests → Course → Digests
+sees i d c = state_seen i (digest_level i) d c
+
+-- what it finds there
+abbrev pub finds : Instance → Digests → Course → List ℕ → Batch → Result CallFinding Refusal
+finds i d c offer b = finding_unless_wanting (finding_at i (digest_level i) (sees i d c) b offer) c.lacks
+
+-- A call goes by digests, where it finds this and its steps are a trail that ends with this fault.
+pub went : (i : Instance) (d : Digests) (c : Course) (offer : List ℕ) (b : Batch) (old new : Standing)
+    (result : Result BatchAnswer Refusal) (found : Result CallFinding Refusal) (fault : Option StepFault) → finds i d c offer b ≡ found
+    → StandsAt i old d → IsTrail i d c.fates 1 (ask_steps i.variant d.flag (is_fresh found) b) old new fault
+    →
+    ((moves : List Move) → result ≡ result_of_ending
+    (call_ending_by (digest_level i) (sees i d c) (state_after_moves (digest_level i) d moves) b found moves fault))
+    → CallGoesBy i d (call_outcome i (digest_level i) d c offer b) old new result
+went i d c offer b old new result found fault e s t gives =
+    let w : StepsWalk = walk c.fates 1 (ask_steps i.variant d.flag (is_fresh found) b) in
+    let l = leads i d c.fates 1 (ask_steps i.variant d.flag (is_fresh found) b) old new fault s t in
+    rw e (record {
+      gives = gives w.moves ∙ ap (λ (f : Option StepFault). result_of_ending
+          (call_ending_by (digest_level i) (sees i d c) (state_after_moves (digest_level i) d w.moves) b found w.moves f)) (sym l.broken);
+      stands = l.stands;
+      items = l.items;
+      steps = l.steps;
+      writes = l.writes;
+    })
+
+register_at : (variant : Variant) (i : Instance) (standing : Standing) (y : History) → RegisterStands variant i standing y
+    → RegisterStandsAt variant (register_reading standing) (register_value_of i y)
+register_at Basic i standing y r = tt
+register_at Opt i standing y r = r
+
+register_stands : (variant : Variant) (i : Instance) (standing : Standing) (y : History)
+    → RegisterStandsAt variant (register_reading standing) (register_value_of i y) → RegisterStands variant i standing y
+register_stands Basic i standing y r = tt
+register_stands Opt i standing y r = r
+
+-- a platform stands for a history exactly where it stands at its digests
+pub stands_at : (i : Instance) (standing : Standing) (y : History) → StandsFor i standing y → StandsAt i standing (digests_of i y)
+stands_at i standing y s = record { spells = s.spells; cell = s.cell; reads = register_at i.variant i standing y s.register }
+
+pub stands_for : (i : Instance) (standing : Standing) (y : History) → StandsAt i standing (digests_of i y) → StandsFor i standing y
+stands_for i standing y s = record { spells = s.spells; cell = s.cell; register = register_stands i.variant i standing y s.reads }
+
+pub continues_by : (i : Instance) → CallsAgree i → (old new : Standing) (course : Course) (offer : List ℕ) (b : Batch)
+    (result : Result BatchAnswer Refusal)
+    → ((d : Digests) → StandsAt i old d → CallGoesBy i d (call_outcome i (digest_level i) d course offer b) old new result)
+    → (all others : List (List ℕ)) (asked : List Batch) (y : History) → StandsFor i old y
+    → IsAsked all others asked i y (call_outcome i (digest_level i) (digests_of i y) course offer b).moves offer b
+    → CallContinues all others asked i (call_outcome i (list_level i) y course offer b) new result
+continues_by i law old new course offer b result goes all others asked y s a =
+    let d : Digests = digests_of i y in
+    let same = law all others asked y d course offer b (is_agrees i y d refl) a in
+    let g = goes d (stands_at i old y s) in
+    let o : CallOutcome History = call_outcome i (list_level i) y course offer b in record {
+      gives = g.gives ∙ ap result_of_ending same.ending;
+      stands = stands_for i new o.state
+          (subst (StandsAt i new) (agrees_is i o.state (call_outcome i (digest_level i) d course offer b).state same.agrees) g.stands);
+      within = same.within;
+    }
+
+-- A call that ended so over a platform is the call on a course, by digests and by lists.
 
 -- What a call comes to by digests
 

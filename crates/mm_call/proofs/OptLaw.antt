@@ -10,12 +10,11 @@ use Rattle.mm_call.proofs.Below.{counted_part, counted_moves, moves_from_reset, 
 use Rattle.mm_call.proofs.Below.{IsAsked, IsSame, IsSameCall, OptCallsAgree, committed_batches, opt_commits, committed-foreign}
 use Rattle.mm_call.proofs.Below.{commits-none, steps_of_change, asks, history_with_values, taking_is, foreign_made, made-append}
 use Rattle.mm_call.proofs.Below.{foreign_move_values-foreign, moves_from_reset-foreign, messages-made}
-use Rattle.mm_call.proofs.Finding.{Asking, Placed, placed, clear_for, IsApart, IsLive, lives, found_same}
+use Rattle.mm_call.proofs.Finding.{Asking, Placed, placed, clear_for, IsApart, IsLive, lives, found_same, fresh_of, ending_same}
 use Rattle.mm_call.proofs.OptHolding.{Holds, foreign_may, bare, bare_digests, found_lists, found_digests, foreign_digests, foreign_agrees}
 use Rattle.mm_call.proofs.OptHolding.{holds_open, holds_shut, within_items, within_of, reset_may}
 use Rattle.mm_call.proofs.OptWalks.{AllFine, holds_made, foreign_all, front_outside, Ready, AreOwn, own_changing, walk_fine, path_end}
 use Rattle.mm_call.proofs.OptWalks.{path_is, IsDue, ready_third, ready_opening, end_place, before, sight, sight_is, names_foreign}
-use Rattle.mm_call.proofs.Calling.{fresh_of, ending_same}
 use Rattle.mm_call.proofs.OptShapes.{two_reads, reading, past, cut, opening, Shape, still, reset, shape}
 use Rattle.mm_call.proofs.BasicLaw.{unlacked}
 

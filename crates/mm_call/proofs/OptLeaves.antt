@@ -9,7 +9,7 @@ use Rattle.mm_call.proofs.Below.{counted_part, counted_moves, IsWithin, IsAsked,
 use Rattle.mm_call.proofs.Below.{asked_by, same_rest, MovesCount, counts_open, nothing, batch, steps_of_change, asks, opt_commits}
 use Rattle.mm_call.proofs.Below.{history_with_values, committed-foreign, opt_closes, closes_first, closes-foreign, HistoryGrows, kept}
 use Rattle.mm_call.proofs.Below.{CallGoesBy}
-use Rattle.mm_call.proofs.Going.{stands_at}
+use Rattle.mm_call.proofs.Completing.{stands_at}
 use Rattle.mm_call.proofs.Finding.{lives}
 use Rattle.mm_call.proofs.OptHolding.{is_agrees, bare, within_items}
 use Rattle.mm_call.proofs.OptShapes.{none_counted, Shape, shape, opt_tied, reads_only}

@@ -12,12 +12,12 @@ use Rattle.mm_call.proofs.Below.{items_after_move, messages_of_moves, foreign_mo
 use Rattle.mm_call.proofs.Below.{OptMovesAreTied, shown-append, foreign_move_values-append, asks, each_self, entries_with_last_batch}
 use Rattle.mm_call.proofs.Below.{history_with_values}
 use Rattle.mm_model.specs.Chains.{register_of}
-use Rattle.mm_call.specs.ShownItems.{nothing}
+use Rattle.mm_call.specs.CallPremises.{nothing}
 use Rattle.mm_call.proofs.OptHolding.{bare, bare_digests}
 use Rattle.mm_call.proofs.OptWalks.{AreOwn, Each, ReadyFor, walk_each, own_changing}
 use Rattle.mm_digest.specs.Messages.{extended_digest_of}
 use Rattle.mm_model.specs.History.{extension_value}
-use Rattle.mm_model.specs.HistoryLaws.{register_more}
+use Rattle.mm_model.specs.SegmentLaws.{register_more}
 use Rattle.mm_call.specs.TrailLaws.{foreign_made as brought_digests}
 
 -- two reading steps, and the rest

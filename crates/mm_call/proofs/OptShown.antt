@@ -10,7 +10,7 @@ use Rattle.mm_call.proofs.Below.{standing_items, MovesAreTied, shows, committed_
 use Rattle.mm_call.proofs.Below.{moves_from_reset-foreign, zero_bytes, after-append, counts_open}
 use Rattle.mm_model.specs.Chains.{register_of}
 use Rattle.mm_seal.specs.Cell.{IsCell, cell_spelling}
-use Rattle.mm_call.specs.ShownItems.{nothing}
+use Rattle.mm_call.specs.CallPremises.{nothing}
 use Rattle.mm_call.proofs.OptShapes.{Shape, still, reset, opt_tied, foreign_of-append}
 use Rattle.mm_call.proofs.OptHolding.{bare, bare_digests, counted_open, counted_shut}
 use Rattle.mm_platform.specs.Standing as platform

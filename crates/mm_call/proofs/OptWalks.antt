@@ -13,9 +13,8 @@ use Rattle.mm_call.proofs.Below.{own_values-append, values_of-own, reads_zero, D
 use Rattle.mm_call.proofs.Below.{guard_message, MayMove, each_self, Course, finding_at, finding_unless_wanting, is_fresh, Result}
 use Rattle.mm_call.proofs.Below.{CallFinding, Refusal, IsSound, NamesPosition, Content, sound_moved, opt_names}
 use Rattle.mm_call.proofs.OptHolding.{Holds, IsFine, holds_moved, foreign_fine, reset_may}
-use Rattle.mm_call.proofs.Finding.{IsLive, live_found}
+use Rattle.mm_call.proofs.Finding.{IsLive, live_found, fresh_found}
 use Rattle.mm_call.proofs.BasicLaw.{unlacked}
-use Rattle.mm_call.proofs.Calling.{fresh_found}
 
 -- what holds of each of the moves, at the history from which it is made
 abbrev pub Each : (History → Move → Type 0) → Instance → History → List Move → Type 0

@@ -1,19 +1,20 @@
--- What a step of the machine does and what is left of a call by it: the device step, the room behind it, and the count of faults.
-use Rattle.std.specs.Prelude.{◌≡◌, ℕ, Bool, true, false, List, Option, None, Some, Result, Ok, Err, refl}
+-- What a step of the machine does and what is left of a call by it. With it: what the machine makes
+-- of a call is a call; what a whole call leaves that the machine makes.
+use Rattle.std.specs.Prelude.{◌≡◌, ℕ, List, [], ◌∷◌, Some, Result, Ok, Err, refl, Bool, true, false, Option, None}
 use Rattle.std.proofs.Common.{ap, ◌∙◌, sym, subst}
-use Rattle.mm_platform.specs.Standing.{Standing}
-use Rattle.mm_platform.specs.Steps.{Act, StepGoes, ReadCell, ReadRegister}
-use Rattle.mm_platform.specs.declared.fault.StepFault.{StepFault}
-use Rattle.mm_seal.specs.declared.cell.Cell.{Cell}
+use Rattle.mm_digest.specs.declared.variant.Variant.{Variant}
 use Rattle.mm_digest.specs.declared.variant.Variant.TheVariants.{Basic}
-use Rattle.mm_model.specs.declared.answer.BatchAnswer.{BatchAnswer}
-use Rattle.mm_model.specs.declared.refusal.Refusal.{Refusal}
+use Rattle.mm_seal.specs.declared.cell.Cell.{Cell}
+use Rattle.mm_platform.specs.CallLaws.{beside-beside}
+use Rattle.mm_platform.specs.Standing.{Standing, Act, StepGoes, ReadCell, ReadRegister, items_beside}
+use Rattle.mm_platform.specs.declared.fault.StepFault.{StepFault}
+use Rattle.mm_module.specs.Batch.{Batch}
+use Rattle.mm_module.specs.Meaning.{Meaning}
 use Rattle.mm_machine.specs.Acts.{remaining_acts}
-use Rattle.mm_machine.specs.OpMeaning.{OpMeaning}
-use Rattle.mm_machine.specs.OpEnds as machine
-use Rattle.mm_machine.specs.OpReads.{StepDraws, CellSays, SightFinds, FindsRoom, OpLooks, OpReads, RegisterSays, RoomIsMadeIf}
-use Rattle.mm_machine.specs.OpReads.{RoomIsMadeFor, OpWeighs, has_extension}
-use Rattle.mm_machine.specs.OpSteps.{SightLeads, OpSteps, act_of, ending_by_halt, step_of_finding, step_after_change}
+use Rattle.mm_machine.specs.OpSteps.{OpMeaning, ending_by_halt, StepDraws, CellSays, SightFinds, FindsRoom, OpLooks, OpReads, RegisterSays}
+use Rattle.mm_machine.specs.OpSteps.{RoomIsMadeIf, RoomIsMadeFor, OpWeighs, has_extension, SightLeads, OpSteps, act_of, step_of_finding}
+use Rattle.mm_machine.specs.OpSteps.{step_after_change}
+use Rattle.mm_machine.specs.OpSteps as machine
 use Rattle.mm_machine.specs.declared.call.OpResult.{OpResult as End}
 use Rattle.mm_machine.specs.declared.call.OpStage.{OpStage}
 use Rattle.mm_machine.specs.declared.call.OpStage.TheVariants.{Begun, Seen, Changing}
@@ -27,16 +28,81 @@ use Rattle.mm_machine.specs.declared.operation.Sight.{Sight}
 use Rattle.mm_machine.specs.declared.operation.Sight.TheVariants as sight
 use Rattle.mm_machine.specs.declared.reading.Halt.{Halt}
 use Rattle.mm_machine.specs.declared.reading.Halt.TheVariants.{Fault, Refused, Lacks}
-use Rattle.mm_call.specs.CallKind.{CallKind}
-use Rattle.mm_call.specs.EndedCall.{result_of}
-use Rattle.mm_call.specs.Untouched.{CountsHandedFault}
-use Rattle.mm_call.specs.UntouchedLaws.{blamed, blamed_later}
-use Rattle.mm_call.specs.Machine.{CallReads, call_kind, end_of_machine, finding_of_machine, refusal_of_halt}
-use Rattle.mm_call.specs.Refusals.{fault_in, fault_of}
-use Rattle.mm_call.specs.CallTurn.{CallTurn, IsCallTurn, turn_fault, turn_of, turn_with}
+use Rattle.mm_model.specs.declared.answer.BatchAnswer.{BatchAnswer}
+use Rattle.mm_model.specs.declared.refusal.Refusal.{Refusal}
+use Rattle.mm_call.specs.CallFinding.{result_with_fault, CountsHandedFault, fault_in, fault_of}
+use Rattle.mm_call.specs.CallKind.{IsCallToEnd, CommitsFinding, EndsByFinding, AreStepsToEnd, committed_position, goes_on, breaks_off}
+use Rattle.mm_call.specs.CallKind.{end_of_refusal, result_of, CallFinishes, IsMade, call_kind, end_of_machine, finding_of_machine}
+use Rattle.mm_call.specs.CallKind.{refusal_of_halt, CallKind, CallReads}
+use Rattle.mm_call.specs.Checkpoints.{CallTurn, IsCallTurn, turn_fault, turn_of, turn_with}
 use Rattle.mm_call.specs.declared.ended.AskResult.{AskResult}
+use Rattle.mm_call.specs.declared.ended.AskResult.TheVariants.{Broken}
+use Rattle.mm_call.specs.TellingLaws.{blamed, blamed_later, read_untouched, same_untouched}
+use Rattle.mm_call.proofs.Below.{◌++◌, arith, Long, IsWholeCall, IsUntouched, CallLeavesUntouched}
 use Rattle.mm_call.proofs.Committing.{BlamesFor, ends_blamed, refused_result, steps_blamed}
-use Rattle.mm_call.proofs.Machine.{acts_told, ends_told, halted_told}
+use Rattle.mm_call.proofs.Completing.{each_call, ends_untouched}
+
+-- What the machine makes of a call is a call: its steps, its end, and the whole of it.
+
+pub halted_told : (why : Halt Refusal) → end_of_machine (ending_by_halt why) ≡ end_of_refusal (refusal_of_halt why)
+halted_told (Fault fault) = refl
+halted_told (Refused why) = refl
+halted_told Lacks = refl
+
+-- device steps, one after another, of an answer that tells this position
+module _ (position : ℕ) (answer : BatchAnswer) (tells : position ≡ answer.position) where
+  position_told : (acts : List Act) → machine.position_before acts position ≡ committed_position acts answer
+  position_told [] = ap Some tells
+  position_told (act ∷ acts) = refl
+
+  pub acts_told : (acts : List Act) (old new : Standing) (end : End BatchAnswer Refusal)
+      → machine.ActsEndBy position acts answer old new end → AreStepsToEnd acts answer old new (end_of_machine end)
+  acts_told [] old new end e = (e.0, ap end_of_machine e.1)
+  acts_told (act ∷ acts) old new end (machine.goes_on middle g e) = goes_on middle g (acts_told acts middle new end e)
+  acts_told (act ∷ acts) old new end (machine.breaks_off fault g e) =
+      breaks_off fault g (ap end_of_machine e ∙ ap (Broken fault) (position_told acts))
+
+-- the steps that commit what was found, by themselves
+pub commits_told : (acts : List Act) (answer : BatchAnswer) (old new : Standing) (end : End BatchAnswer Refusal)
+    (made : Result BatchAnswer StepFault) → machine.ActsEndBy answer.position acts answer old new end
+    → result_of (end_of_machine end) ≡ result_with_fault made → CommitsFinding acts answer old new made
+commits_told acts answer old new end made e gives =
+    record { ended = end_of_machine end; ends = acts_told answer.position answer refl acts old new end e; gives = gives }
+
+-- they refuse nothing
+pub made_by : (acts : List Act) (position : ℕ) (answer : BatchAnswer) (old new : Standing) (end : End BatchAnswer Refusal)
+    → machine.ActsEndBy position acts answer old new end → IsMade end
+made_by [] position answer old new end e = rw e.1 tt
+made_by (act ∷ acts) position answer old new end (machine.goes_on middle g e) = made_by acts position answer middle new end e
+made_by (act ∷ acts) position answer old new end (machine.breaks_off fault g e) = rw e tt
+
+-- what is left of a call that found this, whose answers tell their own position
+pub ends_told : (variant : Variant) (asked : Meaning → List ℕ → Batch → OpMeaning BatchAnswer Refusal) (o : OpMeaning BatchAnswer Refusal)
+    → ((answer : BatchAnswer) → o.position answer ≡ answer.position) → (found : Result (OpFinding BatchAnswer) (Halt Refusal))
+    (old new : Standing) (end : End BatchAnswer Refusal) → machine.FindingEnds o found old new end
+    → EndsByFinding (call_kind variant asked) (finding_of_machine found) old new (end_of_machine end)
+ends_told variant asked o tells (Err why) old new end e = (e.0, ap end_of_machine e.1 ∙ halted_told why)
+ends_told variant asked o tells (Ok found) old new end e =
+    let answer : BatchAnswer = machine.answer_in found in
+    acts_told (o.position answer) answer (tells answer) (machine.acts_for found) old new end e
+
+-- a call from its first step to its end
+module _ (variant : Variant) (asked : Meaning → List ℕ → Batch → OpMeaning BatchAnswer Refusal) (meaning : Meaning) (offer : List ℕ)
+    (b : Batch) (tells : (answer : BatchAnswer) → (asked meaning offer b).position answer ≡ answer.position) where
+  pub asks_told : (old new : Standing) (end : End BatchAnswer Refusal) → machine.OpEnds (asked meaning offer b) Begun old new end
+      → IsCallToEnd (call_kind variant asked) meaning old new offer b (end_of_machine end)
+  asks_told old new end f = record {
+    middle = f.middle;
+    found = finding_of_machine f.found;
+    reads = record { given = f.found; reads = f.finds; gives = refl };
+    ends = ends_told variant asked (asked meaning offer b) tells f.found f.middle new end f.ends;
+  }
+
+  pub finished_asks : (old new : Standing) (ended : AskResult) → CallFinishes (asked meaning offer b) Begun old new ended
+      → IsCallToEnd (call_kind variant asked) meaning old new offer b ended
+  finished_asks old new ended f = rw f.gives (asks_told old new f.end f.finishes)
+
+-- What a step of the machine does and what is left of a call by it: the device step, the room behind it, and the count of faults.
 
 -- an operation whose refusals hand no device's fault on, and whose answers tell their own position
 pub record IsQuiet (o : OpMeaning BatchAnswer Refusal) : Type 0 where
@@ -230,3 +296,94 @@ module _ (o : OpMeaning BatchAnswer Refusal) (quiet : IsQuiet o) where
   finish_blamed (Changing ready) old new end f =
       steps_blamed (remaining_acts ready.change) ready.answer old new (end_of_machine end)
       (acts_told (o.position ready.answer) ready.answer (quiet.tells ready.answer) (remaining_acts ready.change) old new end f)
+
+-- What a whole call leaves that the machine makes: where it is refused nothing has changed, and its faults are counted.
+
+pub register_untouched : (old new : Standing) → StepGoes ReadRegister old new None → IsUntouched old new
+register_untouched old new g = record {
+  others = g.others;
+  cell = g.cell;
+  items = g.items;
+  is_on = g.ends.is_on ∙ sym g.ends.was_on;
+  writes = g.writes;
+  room = omega (arith, g.room);
+  faults = g.ends.faults;
+}
+
+pub then_untouched : (old middle new : Standing) → IsUntouched old middle → IsUntouched middle new → IsUntouched old new
+then_untouched old middle new u v = record {
+  others = u.others ++ v.others;
+  cell = v.cell ∙ u.cell;
+  items = v.items ∙ ap (items_beside v.others) u.items ∙ beside-beside u.others v.others old.items;
+  is_on = v.is_on ∙ u.is_on;
+  writes = v.writes ∙ u.writes;
+  room = omega (arith, u.room, v.room);
+  faults = v.faults ∙ u.faults;
+}
+
+-- a refusal that hands no fault on leaves all untouched
+abbrev Refuses : Standing → Standing → Result (OpFinding BatchAnswer) Refusal → Type 0
+Refuses old new (Ok found) = Unit {0}
+Refuses old new (Err why) = fault_of why ≡ None → IsUntouched old new
+
+room_refused : (needs : Bool) (found : OpFinding BatchAnswer) (given : Result (OpFinding BatchAnswer) (Halt Refusal))
+    (old middle new : Standing)
+    → IsUntouched old middle → RoomIsMadeIf needs found middle new given → Refuses old new (finding_of_machine given)
+room_refused false found given old middle new u r = rw r.1 tt
+room_refused true found (Ok it) old middle new u r = tt
+room_refused true found (Err why) old middle new u r = λ _. rw r.0 u
+
+rooms_refused : (found given : Result (OpFinding BatchAnswer) (Halt Refusal)) (old middle new : Standing)
+    → (fault_in (finding_of_machine found) ≡ None → IsUntouched old middle) → RoomIsMadeFor found middle new given
+    → Refuses old new (finding_of_machine given)
+rooms_refused (Err why) given old middle new u r = rw (r.0, r.1) u
+rooms_refused (Ok found) given old middle new u r = room_refused (has_extension found) found given old middle new (u refl) r
+
+module _ (o : OpMeaning BatchAnswer Refusal) (quiet : IsQuiet o) where
+  weighs_refused : (cell : Cell) (old middle new : Standing) (given : Result (OpFinding BatchAnswer) (Halt Refusal))
+      → IsUntouched old middle
+      → FindsRoom (OpWeighs o cell middle) new given → Refuses old new (finding_of_machine given)
+  weighs_refused cell old middle new given u f =
+      rooms_refused f.found given old f.middle new (λ none. then_untouched old middle f.middle u (register_untouched middle f.middle
+      (subst (StepGoes ReadRegister middle f.middle) none (weighs_goes o quiet cell middle f.middle f.found f.finds)))) f.rooms
+
+  sight_refused : (old middle new : Standing) (seen : Result (Sight BatchAnswer) (Halt Refusal))
+      (given : Result (OpFinding BatchAnswer) (Halt Refusal)) → (fault_in (finding_of_machine seen) ≡ None → IsUntouched old middle)
+      → SightFinds o seen middle new given → Refuses old new (finding_of_machine given)
+  sight_refused old middle new (Err why) given u f = rw (f.0, f.1) u
+  sight_refused old middle new (Ok (sight.Found found)) given u f = rooms_refused (Ok found) given old middle new u f
+  sight_refused old middle new (Ok (sight.Cell cell)) given u f = weighs_refused cell old middle new given (u refl) f
+
+  given_refused : (old new : Standing) (given : Result (OpFinding BatchAnswer) (Halt Refusal)) → OpReads o old new given
+      → Refuses old new (finding_of_machine given)
+  given_refused old new given r =
+      sight_refused old r.middle new r.seen given (λ none. read_untouched old r.middle
+      (subst (StepGoes ReadCell old r.middle) none (looks_goes o quiet old r.middle r.seen r.looks))) r.on
+
+  reads_refused : (old new : Standing) (found : Result (OpFinding BatchAnswer) Refusal) → CallReads o old new found → Refuses old new found
+  reads_refused old new found r = rw r.gives (given_refused old new r.given r.reads)
+
+-- a whole call
+module _ (variant : Variant) (asked : Meaning → List ℕ → Batch → OpMeaning BatchAnswer Refusal) (meaning : Meaning) (old new : Standing)
+    (offer : List ℕ) (b : Batch) (quiet : IsQuiet (asked meaning offer b)) (result : Result BatchAnswer Refusal)
+    (calls : IsWholeCall (call_kind variant asked) meaning old new offer b result) where
+  abbrev c : CallKind (OpFinding BatchAnswer)
+  c = call_kind variant asked
+
+  pub calls_untouched : CallLeavesUntouched result old new
+  calls_untouched =
+      each_call c meaning old new offer b (λ (s : Standing) (r : Result BatchAnswer Refusal). CallLeavesUntouched r old s) result
+      (λ (h : fault_of Long ≡ None). same_untouched old)
+      (λ (ended : AskResult) (a : IsCallToEnd c meaning old new offer b ended).
+      ends_untouched c a.found old a.middle new ended a.ends
+      (λ (why : Refusal) (is : a.found ≡ Err why). subst (Refuses old a.middle) is
+      (reads_refused (asked meaning offer b) quiet old a.middle a.found a.reads)))
+      calls
+
+  pub calls_blamed : CountsHandedFault (fault_in result) old.faults new.faults
+  calls_blamed =
+      each_call c meaning old new offer b
+      (λ (s : Standing) (r : Result BatchAnswer Refusal). CountsHandedFault (fault_in r) old.faults s.faults) result refl
+      (λ (ended : AskResult) (a : IsCallToEnd c meaning old new offer b ended).
+      ends_blamed c a.found old a.middle new ended (reads_blamed (asked meaning offer b) quiet old a.middle a.found a.reads) a.ends)
+      calls

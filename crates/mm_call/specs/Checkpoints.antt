@@ -1,13 +1,28 @@
--- What a checkpoint comes to on a course, by either level; and its laws.
-use Rattle.std.specs.Prelude.{ℕ, Bool, true, false, List}
+-- What a checkpoint comes to on a course, by either level; and its laws. With it: what one step of
+-- a call comes to; when a call is answered; what a whole call promises, in either variant.
 use Rattle.std.specs.List.{AllByRecursion, Contains}
 use Rattle.std.specs.Option.{option_map_or}
+use Rattle.std.specs.Prelude.{ℕ, Bool, true, false, List, Option, ◌≡◌, None, Result, Ok, Err, ◌+◌, ◌≤◌, [], ◌++◌, Some, IfOk}
+use Rattle.mm_bytes.specs.Limits.{last_position}
+use Rattle.mm_machine.specs.OpSteps.{OpMeaning, OpSteps}
+use Rattle.mm_machine.specs.declared.call.OpStage.{OpStage}
+use Rattle.mm_machine.specs.declared.call.StepResult.{StepResult}
+use Rattle.mm_machine.specs.declared.call.StepResult.TheVariants as step
+use Rattle.mm_machine.specs.declared.operation.OpFinding.{OpFinding}
+use Rattle.mm_model.specs.Messages.{IsClearFor}
+use Rattle.mm_model.specs.Moves.{IsFit}
+use Rattle.mm_model.specs.Standing.{NamesPosition}
 use Rattle.mm_call.specs.Below.{Variant, Basic, Opt, StepFault, Batch, Meaning, History, Move, Instance, basic_instance, opt_instance}
-use Rattle.mm_call.specs.Below.{AreMessagesIn, IsClear, Digests, checkpoint_steps}
-use Rattle.mm_call.specs.Levels.{Level, list_level, digest_level, DigestsAgree}
-use Rattle.mm_call.specs.Courses.{Course, StepsWalk, walk, has_close}
-use Rattle.mm_call.specs.CallOutcome.{WalkOutcome, outcome_of_walk, state_seen}
-use Rattle.mm_call.specs.CallPremises.{counted_part, counted_moves, messages_of_moves, foreign_move_values, IsWithin}
+use Rattle.mm_call.specs.Below.{AreMessagesIn, IsClear, Digests, checkpoint_steps, Standing, BatchAnswer, Refusal, Content, Item, size_of}
+use Rattle.mm_call.specs.Below.{normal_batch, verdict_on, is_long, StandsFor, IsRight, Again}
+use Rattle.mm_call.specs.CallFinding.{Level, list_level, digest_level, DigestsAgree, fault_of, IsAccepted, IsAnswered, CountsHandedFault}
+use Rattle.mm_call.specs.CallFinding.{CallLeavesUntouched, fault_in}
+use Rattle.mm_call.specs.CallKind.{result_of, end_of_machine, CallKind, IsWholeCall, IsCallOnCourse}
+use Rattle.mm_call.specs.CallOutcome.{Course, StepsWalk, walk, has_close, WalkOutcome, outcome_of_walk, state_seen}
+use Rattle.mm_call.specs.CallPremises.{counted_part, counted_moves, messages_of_moves, foreign_move_values, IsWithin, AreAsked, AreShown}
+use Rattle.mm_call.specs.CallPremises.{foreign_items, standing_items, StepsBy, WritesBy}
+use Rattle.mm_call.specs.declared.turn.Turn.{Turn}
+use Rattle.mm_call.specs.declared.turn.Turn.TheVariants.{Going, Done, Refused}
 use Rattle.mm_call.specs.Laws.{IsSame}
 
 -- The segment was closed; or nothing was: Basic has no segments, none is open, or power was lost
@@ -77,3 +92,96 @@ BasicCheckpointsAgree = (meaning : Meaning) (key : List ℕ)
 abbrev pub OptCheckpointsAgree : Type 0
 OptCheckpointsAgree =
     (meaning : Meaning) (key barrier : List ℕ) → CheckpointsAgree (opt_instance meaning key barrier)
+
+abbrev pub checkpoint_ending_by : Option StepFault → Bool → CheckpointEnding → CheckpointEnding
+checkpoint_ending_by broken closed closing =
+    option_map_or (λ fault. Stops fault closed) broken closing
+
+-- a checkpoint, by whether power was lost inside the segment
+abbrev pub checkpoint_outcome_with : {S : Type 0} → Instance → Level S → S → Course → Bool
+    → CheckpointOutcome S
+checkpoint_outcome_with i level s c is_lost =
+    checkpoint_outcome_by level s (checkpoint_ending i.variant (level.is_open s) is_lost)
+    (walk c.fates 1 (checkpoint_steps i.variant (level.is_open s) is_lost))
+
+-- What one step of a call comes to.
+
+-- the turn that ends a call which gives this
+abbrev pub turn_with : {C A R : Type 0} → Result A R → Turn C A R
+turn_with (Ok answer) = Done answer
+turn_with (Err why) = Refused why
+
+-- one turn of a call that asks for a batch
+abbrev pub CallTurn : Type 0
+CallTurn = Turn (OpStage BatchAnswer) BatchAnswer Refusal
+
+abbrev pub turn_of : StepResult BatchAnswer Refusal → CallTurn
+turn_of (step.Going stage) = Going stage
+turn_of (step.Over end) = turn_with (result_of (end_of_machine end))
+
+-- the fault of a device step that it hands on
+abbrev pub turn_fault : CallTurn → Option StepFault
+turn_fault (Refused why) = fault_of why
+turn_fault _ = None
+
+-- One turn of a call of what was asked, that stands here: its step is one of the machine.
+pub record IsCallTurn (o : OpMeaning BatchAnswer Refusal) (stage : OpStage BatchAnswer)
+    (old new : Standing) (turn : CallTurn) : Type 0 where
+  pub step : StepResult BatchAnswer Refusal
+  pub steps : OpSteps o stage old new step
+  pub gives : turn ≡ turn_of step
+
+-- When a call is answered.
+
+-- Completeness: a right offer that names the last position, or the one before the batch that was
+-- committed last and is asked again, is answered, while there are positions left. In Opt the
+-- history is live, and nobody else extended the register inside a segment; of a repeat with no
+-- segment open nothing is asked of the register's items, as it neither reads them nor empties the
+-- register.
+abbrev pub IsComplete : Variant → Meaning → Standing → Standing → List ℕ → Batch
+    → Result BatchAnswer Refusal → Type 0
+IsComplete Basic meaning old new offer b result =
+    is_long b ≡ false → (key : List ℕ) (y : History) (all : List (List ℕ)) (content : Content) →
+    StandsFor (basic_instance meaning key) old y
+    → IsRight (basic_instance meaning key) offer content →
+    NamesPosition (basic_instance meaning key) y content →
+    IsClearFor all (basic_instance meaning key) y content.place (normal_batch b) →
+    IsAccepted (verdict_on Basic y content.position (normal_batch b)) →
+    content.position + size_of b ≤ last_position →
+    IsAnswered result old new
+IsComplete Opt meaning old new offer b result =
+    is_long b ≡ false → (key barrier : List ℕ) (y : History) (all others : List (List ℕ))
+    (asked : List Batch) (items more : List Item) (content : Content) →
+    StandsFor (opt_instance meaning key barrier) old y →
+    old.items ≡ Some items → new.items ≡ Some (standing_items y.is_open items ++ more) →
+    (y.is_open ≡ true → foreign_items more ≡ []) →
+    AreAsked all others asked (opt_instance meaning key barrier) y offer (normal_batch b) →
+    (((y.is_open ≡ false) × (verdict_on Opt y content.position (normal_batch b) ≡ Again) → ⊥) →
+    AreShown all others (opt_instance meaning key barrier) y more) →
+    IsRight (opt_instance meaning key barrier) offer content →
+    IsAccepted (verdict_on Opt y content.position (normal_batch b)) →
+    content.position + size_of b ≤ last_position →
+    IsAnswered result old new
+
+-- What a whole call promises, in either variant.
+
+-- One call over a platform, that offered these bytes and asked for the batch.
+pub record AskPromise (c : CallKind (OpFinding BatchAnswer)) (meaning : Meaning)
+    (old new : Standing)
+    (offer : List ℕ) (b : Batch) (result : Result BatchAnswer Refusal) : Type 0 where
+  -- the steps that were made, and what each gave; none where the batch is too long
+  pub calls : IsWholeCall c meaning old new offer b result
+  -- a refusal that hands on no device's fault has changed nothing
+  pub untouched : CallLeavesUntouched result old new
+  -- the count of faults rose exactly where a device's fault is handed on
+  pub faults : CountsHandedFault (fault_in result) old.faults new.faults
+  -- how many steps that were, and how many of them write the cell
+  pub steps : is_long b ≡ false → StepsBy c.variant result old new
+  -- the cell is to be written at most once, and inside a segment never
+  pub writes : WritesBy c.variant result old new
+  -- an answer has its sizes: a position, a line for each request, and a snapshot within its bounds
+  pub fits : IfOk result (λ answer. IsFit b answer)
+  -- the call is the one that the definitions give, on some course: by digests, and by lists
+  pub goes : is_long b ≡ false → IsCallOnCourse c.variant meaning old new offer b result
+  -- a right offer that the history accepts is answered
+  pub complete : IsComplete c.variant meaning old new offer b result

@@ -1,9 +1,8 @@
 -- The laws of calls: by digests a call is what it is by lists, on every course.
 use Rattle.std.specs.Prelude.{◌≡◌, ℕ, List}
 use Rattle.mm_call.specs.Below.{Batch, Meaning, History, Instance, basic_instance, opt_instance, Digests}
-use Rattle.mm_call.specs.Levels.{list_level, digest_level, DigestsAgree}
-use Rattle.mm_call.specs.Courses.{Course}
-use Rattle.mm_call.specs.CallOutcome.{WalkOutcome, CallOutcome, call_outcome}
+use Rattle.mm_call.specs.CallFinding.{list_level, digest_level, DigestsAgree}
+use Rattle.mm_call.specs.CallOutcome.{Course, WalkOutcome, CallOutcome, call_outcome}
 use Rattle.mm_call.specs.CallPremises.{IsWithin, IsAsked}
 
 -- Two calls, or checkpoints, end in the same way, with the same moves, steps and writes; the digests

@@ -1,15 +1,19 @@
--- How a trail is put together from its steps, and the course that a call took: the fates of the steps that were made are
--- read off them, and the others are the plan's.
-use Rattle.std.specs.Prelude.{◌==◌, if◌then◌else◌}
-use Rattle.std.proofs.Common.{◌+◌, refl, sym, ap, ◌∙◌, arith, ◌≡◌, ℕ, Bool, true, false, List, [], ◌∷◌, Option, None, Some}
-use Rattle.std.proofs.lemmas.Bool.Decides.{nat_tests}
+-- How a trail is put together from its steps, and the course that a call took: the fates of the
+-- steps that were made are read off them, and the others are the plan's. With it: what a whole call
+-- leaves and counts.
 use Rattle.std.specs.Option.{option_map}
+use Rattle.std.specs.Prelude.{◌==◌, if◌then◌else◌}
+use Rattle.std.specs.Result.{result_err}
+use Rattle.std.proofs.Common.{◌+◌, refl, sym, ap, ◌∙◌, arith, ◌≡◌, ℕ, Bool, true, false, List, [], ◌∷◌, Option, None, Some, subst, Result}
+use Rattle.std.proofs.Common.{Ok, Err}
+use Rattle.std.proofs.lemmas.Bool.Decides.{nat_tests}
 use Rattle.mm_call.specs.Below.{next_count, Plan, Standing, plan_after, due_values, known_plan, Act, StepGoes, fault_by_plan}
 use Rattle.mm_call.specs.Below.{is_made_by_plan, values_by_plan, fault_at, is_made_at, next_plan, StepFault, Instance, Digests, DeviceStep}
-use Rattle.mm_call.specs.Levels.{state_after_moves, digest_level}
-use Rattle.mm_call.specs.Courses.{StepFate, step_moves, fate_by_plan, AreTold}
-use Rattle.mm_call.specs.CoursesWords.{end_of}
-use Rattle.mm_call.specs.Trails.{MakesStep, StepIsMade, IsTrail}
+use Rattle.mm_call.specs.Below.{beside-none, ReadCell, DeviceStepEnds, Failed, Answer, BatchAnswer}
+use Rattle.mm_call.specs.CallFinding.{state_after_moves, digest_level, fault_in, result_with_fault, IsUntouched, CountsHandedFault}
+use Rattle.mm_call.specs.CallFinding.{batch_answer_of}
+use Rattle.mm_call.specs.CallOutcome.{StepFate, step_moves, fate_by_plan, AreTold, end_of}
+use Rattle.mm_call.specs.Standing.{MakesStep, StepIsMade, IsTrail}
 
 -- Trails
 
@@ -111,3 +115,42 @@ pub room_at : (after new : Standing) (plan : Plan) (at : ℕ) → new ≡ record
     → IsAt new plan at
 room_at after new plan at e p =
     record { is_on = ap (λ (s : Standing). s.is_on) e ∙ p.is_on; planned = ap (λ (s : Standing). s.plan) e ∙ p.planned }
+
+-- What a whole call leaves and counts.
+
+pub same_untouched : (old : Standing) → IsUntouched old old
+same_untouched old = record {
+  others = [];
+  cell = refl;
+  items = sym (beside-none old.items);
+  is_on = refl;
+  writes = refl;
+  room = omega arith;
+  faults = refl;
+}
+
+pub read_untouched : (old new : Standing) → StepGoes ReadCell old new None → IsUntouched old new
+read_untouched old new g = record {
+  others = g.others;
+  cell = g.cell;
+  items = g.items;
+  is_on = g.ends.is_on ∙ sym g.ends.was_on;
+  writes = g.writes;
+  room = omega (arith, g.room);
+  faults = g.ends.faults;
+}
+
+pub blamed : (fault : Option StepFault) (old new : Standing) (made : Bool) → DeviceStepEnds fault old new made
+    → CountsHandedFault fault old.faults new.faults
+blamed (Some Failed) old new made e = e.faults
+blamed _ old new made e = e.faults
+
+pub blamed_later : (fault : Option StepFault) (first before now : ℕ) → before ≡ first → CountsHandedFault fault before now
+    → CountsHandedFault fault first now
+blamed_later fault first before now e b = subst (λ (n : ℕ). CountsHandedFault fault n now) e b
+
+-- the answer to a batch of one is that to its request
+pub wholly : (all : BatchAnswer) (answer : Answer) → answer.again ≡ all.again → answer.position ≡ all.position
+    → all.outputs ≡ answer.output ∷ [] → answer.snapshot ≡ all.snapshot → all ≡ batch_answer_of answer
+wholly all answer again position outputs snapshot =
+    λ i. record { again = sym again i; position = sym position i; outputs = outputs i; snapshot = sym snapshot i }

@@ -10,11 +10,10 @@ use Rattle.mm_call.specs.Below.{Standing, own_item, foreign_item, item_values, r
 use Rattle.mm_call.specs.Below.{ResetRegister, ExtendRegister, items_beside, cell_after, items_after, writes_after, StepFault, Move}
 use Rattle.mm_call.specs.Below.{Foreign, Instance, Digests, digests_after, DeviceStep, Reads, Changes, Writes}
 use Rattle.std.specs.List.{fold}
-use Rattle.mm_call.specs.Levels.{state_after_moves, digest_level}
-use Rattle.mm_call.specs.Courses.{StepFate, StepsWalk, walk, walk_from_step, step_moves, writes_with_step}
-use Rattle.mm_call.specs.Standing.{RegisterStandsAt, StandsAt, items_after_move, items_after_moves, count_after_more}
-use Rattle.mm_call.specs.Trails.{register_by, items_by, IsChange, IsWrite, MakesStep, StepIsMade, RestFollows, IsTrail, WalkLeads}
-use Rattle.mm_call.specs.Trails.{TrailsLead}
+use Rattle.mm_call.specs.CallFinding.{state_after_moves, digest_level}
+use Rattle.mm_call.specs.CallOutcome.{StepFate, StepsWalk, walk, walk_from_step, step_moves, writes_with_step}
+use Rattle.mm_call.specs.Standing.{RegisterStandsAt, StandsAt, items_after_move, items_after_moves, count_after_more, register_by, items_by}
+use Rattle.mm_call.specs.Standing.{IsChange, IsWrite, MakesStep, StepIsMade, RestFollows, IsTrail, WalkLeads, TrailsLead}
 
 -- the register's value, where its items are told
 abbrev pub register_of_items : Option (List Item) → Option (List ℕ)

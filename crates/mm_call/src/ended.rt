@@ -1,7 +1,7 @@
 //! How a call ended.
 
 ghost use Rattle.std.specs.Prelude.{◌≡◌};
-ghost use Rattle.mm_call.specs.Machine.{refusal_of_halt};
+ghost use Rattle.mm_call.specs.CallKind.{refusal_of_halt};
 
 use mm_machine::Halt;
 use mm_model::{BatchAnswer, Refusal};
@@ -37,8 +37,7 @@ pub fn refusal_of(halt: Halt<Refusal>) -> Refusal
 
 impl AskResult {
     ghost use Rattle.std.specs.Prelude.{◌≡◌};
-    ghost use Rattle.mm_call.specs.EndedCall.{result_of, end_of_refusal};
-    ghost use Rattle.mm_call.specs.Machine.{end_of_machine};
+    ghost use Rattle.mm_call.specs.CallKind.{result_of, end_of_refusal, end_of_machine};
 
     /// How a call ended that the machine made.
     #[inline(always)]

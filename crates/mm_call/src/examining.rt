@@ -4,9 +4,8 @@ ghost use Rattle.std.specs.Prelude.{◌≡◌, ◌+◌, ◌≤◌, false, IsTrue
 ghost use Rattle.mm_bytes.specs.Limits.{last_position};
 ghost use Rattle.mm_module.specs.Batch.{size_of};
 ghost use Rattle.mm_module.specs.Batches.{batch_of};
-ghost use Rattle.mm_model.specs.Long.{is_long};
-ghost use Rattle.mm_call.specs.Order.{check_of_verdict};
-ghost use Rattle.mm_call.specs.OfferOrder.{SettlesOffer};
+ghost use Rattle.mm_model.specs.Moves.{is_long};
+ghost use Rattle.mm_call.specs.CallFinding.{check_of_verdict, SettlesOffer};
 
 use mm_bytes::LAST_POSITION;
 use mm_model::{Refusal, Verdict};

@@ -2,8 +2,8 @@
 
 ghost use Rattle.mm_call.specs.Checkpoints.{BasicCheckpointsAgree, OptCheckpointsAgree};
 ghost use Rattle.mm_call.specs.Laws.{BasicCallsAgree, OptCallsAgree};
-ghost use Rattle.mm_call.specs.ShownItems.{OptMovesAreTied};
-ghost use Rattle.mm_call.specs.Trails.{TrailsLead};
+ghost use Rattle.mm_call.specs.CallPremises.{OptMovesAreTied};
+ghost use Rattle.mm_call.specs.Standing.{TrailsLead};
 
 /// A call of Basic is by digests what it is by lists, on every course, where no two messages of the
 /// history and the call share a digest and a right offer names a position.

@@ -15,7 +15,7 @@ pub enum Turn<C, A, R> {
 
 impl<C, A, R> Turn<C, A, R> {
     ghost use Rattle.std.specs.Prelude.{◌≡◌};
-    ghost use Rattle.mm_call.specs.CallTurn.{turn_with};
+    ghost use Rattle.mm_call.specs.Checkpoints.{turn_with};
 
     /// The turn that ends a call which gives this.
     #[inline(always)]

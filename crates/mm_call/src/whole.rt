@@ -3,15 +3,10 @@
 
 ghost use Rattle.std.specs.Prelude.{◌≡◌, ◌≤◌, true, IfOk};
 ghost use Rattle.std.specs.Result.{result_err};
-ghost use Rattle.mm_machine.specs.OpEnds.{acts_for, answer_in};
-ghost use Rattle.mm_machine.specs.OpReads.{has_extension};
-ghost use Rattle.mm_machine.specs.Prepared.{StandsAsPrepared, found_in};
+ghost use Rattle.mm_machine.specs.OpSteps.{acts_for, answer_in, has_extension, StandsAsPrepared, found_in};
 ghost use Rattle.mm_machine.specs.declared.call.OpStage.TheVariants.{Begun};
-ghost use Rattle.mm_call.specs.CallKind.{CommitsFinding};
-ghost use Rattle.mm_call.specs.EndedCall.{result_of};
-ghost use Rattle.mm_call.specs.Untouched.{CountsHandedFault};
-ghost use Rattle.mm_call.specs.Machine.{CallFinishes, CallReads, IsMade, end_of_machine};
-ghost use Rattle.mm_call.specs.Refusals.{result_with_fault};
+ghost use Rattle.mm_call.specs.CallKind.{CommitsFinding, result_of, CallFinishes, CallReads, IsMade, end_of_machine};
+ghost use Rattle.mm_call.specs.CallFinding.{CountsHandedFault, result_with_fault};
 
 use crate::ended::{AskResult, refusal_of};
 use mm_machine::{OpFinding, OpPrepared, Operation, finish_change, read, run};

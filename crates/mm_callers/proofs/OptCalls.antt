@@ -1,20 +1,112 @@
--- Opt: what a call hands on to the next, and the callers' clauses, from those of their calls.
-use Rattle.mm_callers.proofs.Below.{◌≡◌, ℕ, Bool, true, false, List, [], ◌++◌, map, Some, Result, Ok, Err, refl, sym, ap, ◌∙◌, subst, inl}
-use Rattle.mm_callers.proofs.Below.{inr, option_map, append-nil, Opt, StepFault, Item, Standing, Meaning, IsLawful, Batch, One, Content}
-use Rattle.mm_callers.proofs.Below.{Instance, opt_instance, History, Move, Commit, Foreign, history_after, is_long, AreMessagesIn}
-use Rattle.mm_callers.proofs.Below.{offer_messages, digests_of, content_of_issue, StandsFor, BatchAnswer, Refusal, Device, Long, Verdict}
-use Rattle.mm_callers.proofs.Below.{opt_issued, same_closed, IsAsked, call_outcome, IsCallOnCourse, CountsHandedFault, IsAccepted}
-use Rattle.mm_callers.proofs.Below.{list_level, state_after_moves, opt_content, AreAsked, AreShown, IsIdle, fault_of, items_after_moves}
+-- Opt: what a call hands on to the next, and the callers' clauses, from those of their calls. With
+-- it: a welcome offer is found, and a call that finds it and isn't broken off answers; Opt: a call
+-- that nothing disturbs answers a welcome offer, or lacks memory.
+use Rattle.std.proofs.lemmas.Bool.{eq-eqb}
+use Rattle.mm_model.specs.Verdicts.{verdict_on}
+use Rattle.mm_model.specs.declared.verdict.Verdict.TheVariants.{Fresh, Again}
+use Rattle.mm_call.specs.CallFinding.{check_of_verdict}
+use Rattle.mm_call.specs.WalkLaws.{call_commits}
+use Rattle.mm_opt.specs.AskPromise.{OptAskPromise}
+use Rattle.mm_opt.proofs.Above.{found_right}
+use Rattle.mm_callers.specs.Basic.{AreAskedNext}
+use Rattle.mm_callers.specs.Opt.{CallsAreComplete, AsksTwice}
+use Rattle.mm_callers.proofs.Below.{◌≡◌, ℕ, ◌+◌, Bool, true, false, List, [], ◌∷◌, ◌++◌, None, Result, Ok, refl, sym, ap, ◌∙◌, subst}
+use Rattle.mm_callers.proofs.Below.{if◌then◌else◌, nat_eq, Variant, Batch, Content, Instance, History, total_of, Live, life_of, DeviceStep}
+use Rattle.mm_callers.proofs.Below.{ask_steps, at_the_end, before_the_last, Refusal, Verdict, list_level, state_after_moves, CallFinding}
+use Rattle.mm_callers.proofs.Below.{finding_at, finding_unless_wanting, End, Done, Fails, StepFate, StepsWalk, walk_from_step, walk}
+use Rattle.mm_callers.proofs.Below.{state_seen, call_ending_by, call_outcome_with, again_of, fresh_of, same_batches, more_batches, Commits}
+use Rattle.mm_callers.proofs.Below.{nothing, batch, IsOfferedAt, IsWelcome, batches_after_call, IsAnswer, map, Some, Err, inl, inr}
+use Rattle.mm_callers.proofs.Below.{option_map, append-nil, Opt, StepFault, Item, Standing, Meaning, IsLawful, One, opt_instance, Move}
+use Rattle.mm_callers.proofs.Below.{Commit, Foreign, history_after, is_long, AreMessagesIn, offer_messages, digests_of, content_of_issue}
+use Rattle.mm_callers.proofs.Below.{StandsFor, BatchAnswer, Device, Long, opt_issued, same_closed, IsAsked, call_outcome, IsCallOnCourse}
+use Rattle.mm_callers.proofs.Below.{CountsHandedFault, IsAccepted, opt_content, AreAsked, AreShown, IsIdle, fault_of, items_after_moves}
 use Rattle.mm_callers.proofs.Below.{standing_items, foreign_first, opt_comes, stands_at, asked_for, asked_idle, idle_again, idle_moves}
 use Rattle.mm_callers.proofs.Below.{unless_idle, Alike, still, grown_by, alike_still, alike_foreign, issued_alike, names_after}
 use Rattle.mm_callers.proofs.Below.{Left as OptLeft, DigestMoves, GoesOn, Pushed, alike_call, call_goes_on, hands, seen_closes, bare}
-use Rattle.mm_callers.proofs.Below.{in_first, AsksOnce, AsksWelcome}
-use Rattle.mm_opt.specs.AskPromise.{OptAskPromise}
-use Rattle.mm_callers.specs.Basic.{AreAskedNext}
-use Rattle.mm_callers.specs.Opt.{AsksTwice}
-use Rattle.mm_callers.proofs.Completing.{verdict_of, verdict_is}
-use Rattle.mm_callers.proofs.Leaving.{by_length, not_long, answered, After, Left, asked_on, left_long, left_short, ends_once}
+use Rattle.mm_callers.proofs.Below.{in_first, AsksOnce, AsksWelcome, Contains, extended_message, quiet_plan, guard, register_value_of}
+use Rattle.mm_callers.proofs.Below.{Digests, Memory, digest_level, is_fresh, Course, CallOutcome, result_of_ending, CallContinues}
+use Rattle.mm_callers.proofs.Below.{counted_part, counted_moves, messages_of_moves, foreign_move_values, asked_by, AnswersOrLacks}
+use Rattle.mm_callers.proofs.Below.{AsksByQuietPlan, AsksInMemory}
+use Rattle.mm_callers.proofs.Leaving.{not_again, by_length, not_long, answered, After, Left, asked_on, left_long, left_short, ends_once}
 use Rattle.mm_callers.proofs.Leaving.{ends_again, ends_next, asked_next}
+
+-- A welcome offer is found, and a call that finds it and isn't broken off answers.
+
+-- the verdict on a welcome offer
+abbrev pub verdict_of : Bool → Verdict
+verdict_of true = Again
+verdict_of false = Fresh
+
+admits : (again : Bool) → check_of_verdict (verdict_of again) true ≡ Ok again
+admits true = refl
+admits false = refl
+
+-- a place before the last batch isn't the end
+not_here : (here : Bool) (batches front : List Batch) (b : Batch) → front ++ b ∷ [] ≡ batches
+    → nat_eq (total_of front) (total_of batches) ≡ here → here ≡ false
+not_here false batches front b is e = refl
+not_here true batches front b is e =
+    absurd (not_again batches front b is (ap total_of (sym ((at_the_end batches front (b ∷ []) (sym is)).0 e))))
+
+pub verdict_is : (variant : Variant) (y : History) (p : ℕ) (b : Batch) (again : Bool) → life_of variant y ≡ Live
+    → IsOfferedAt again y.batches p b → verdict_on variant y p b ≡ verdict_of again
+verdict_is variant y p b false live offered =
+    simp (live, eq-eqb p (total_of y.batches) offered)
+verdict_is variant y p b true live offered =
+    let front : List Batch = offered.0.front in
+    let is : front ++ b ∷ [] ≡ y.batches = offered.0.is in
+    simp (
+      live,
+      offered.1,
+      not_here (nat_eq (total_of front) (total_of y.batches)) y.batches front b is refl,
+      (before_the_last y.batches front (b ∷ []) b (sym is)).1 is,
+    )
+
+abbrev accepted : Content → Bool → CallFinding
+accepted content again = record { offered = content; again = again }
+
+pub welcome_found : (i : Instance) (y : History) (offer : List ℕ) (b : Batch) (again : Bool) → (w : IsWelcome i y offer b again)
+    → finding_at i (list_level i) y b offer ≡ Ok (accepted w.content again)
+welcome_found i y offer b again w =
+    found_right i y offer b w.content w.live w.right w.fits
+    ∙ simp (verdict_is i.variant y w.content.position b again w.live w.offered, admits again)
+
+-- a walk of which no step fails isn't broken off
+done_then : (step : DeviceStep) (values : List (List ℕ)) (ends : End) (rest : StepsWalk) → ends ≡ Done → rest.broken ≡ None
+    → (walk_from_step step values ends rest).broken ≡ None
+done_then step values Done rest e h = h
+done_then step values (Fails fault made) rest e h = absurd (cc)
+
+pub walk_whole : (fates : ℕ → StepFate) → ((n : ℕ) → (fates n).ends ≡ Done) → (steps : List DeviceStep) (n : ℕ)
+    → (walk fates n steps).broken ≡ None
+walk_whole fates done [] n = refl
+walk_whole fates done (step ∷ steps) n =
+    done_then step (fates n).brings (fates n).ends (walk fates (n + 1) steps) (done n) (walk_whole fates done steps (n + 1))
+
+answered_batches : (i : Instance) (y : History) (b : Batch) (again : Bool) (w : StepsWalk) → Commits b (if again then false else true) w
+    → w.broken ≡ None → (state_after_moves (list_level i) y w.moves).batches ≡ batches_after_call again y.batches b
+answered_batches i y b again w (nothing none unless) whole =
+    same_batches i w.moves y none ∙ ap (λ (a : Bool). batches_after_call a y.batches b) (sym (again_of again (unless whole)))
+answered_batches i y b again w (batch one fresh) whole =
+    more_batches i w.moves y b one ∙ ap (λ (a : Bool). batches_after_call a y.batches b) (sym (fresh_of again fresh))
+
+-- a call that finds a welcome offer
+pub complete : (i : Instance) → CallsAreComplete i
+complete i y c offer b again smooth w =
+    let seen : History = state_seen i (list_level i) y c in
+    let found : finding_unless_wanting (finding_at i (list_level i) seen b offer) c.lacks ≡ Ok (accepted w.content again) =
+    simp (welcome_found i seen offer b again w, smooth.lacks) in
+    let fresh : Bool = if again then false else true in
+    let walked : StepsWalk = walk c.fates 1 (ask_steps i.variant y.is_open fresh b) in
+    let whole : walked.broken ≡ None = walk_whole c.fates smooth.done (ask_steps i.variant y.is_open fresh b) 1 in
+    subst (λ (x : Result CallFinding Refusal). IsAnswer i y b again (call_outcome_with i (list_level i) y seen c b x)) (sym found) (record {
+      ending = ap
+          (call_ending_by (list_level i) seen (state_after_moves (list_level i) y walked.moves) b (Ok (accepted w.content again))
+          walked.moves) whole;
+      batches = answered_batches i y b again walked (call_commits i.variant c.fates y.is_open fresh b) whole;
+    })
+
+-- Opt: what a call hands on to the next, and the callers' clauses, from those of their calls.
 
 closed_same : (meaning : Meaning) (key barrier : List ℕ) (y after : History) (b : Batch) → Alike meaning key barrier y b after
     → after.closed ≡ y.closed
@@ -229,3 +321,94 @@ asked_twice {meaning = meaning} {old = old} {middle = middle} {new = new} {offer
     (next_listed meaning key barrier all asked y l.after (One first) (One second) n l.alike) in
     ends_next old a result before.faults call.faults e (after_left meaning key barrier all others asked a l) so.0
     (left call key barrier l.after all others asked h.items h.more l.stands h.known h.ends so.1 (λ busy. h.shown_are))
+
+-- Opt: a call that nothing disturbs answers a welcome offer, or lacks memory.
+
+-- the course of a call that nothing disturbs
+abbrev still_fates : ℕ → StepFate
+still_fates n = record { brings = []; ends = Done }
+
+abbrev still_course : Bool → Course
+still_course lacks = record { fates = still_fates; lacks = lacks }
+
+module _ (meaning : Meaning) (key barrier : List ℕ) where
+  abbrev I : Instance
+  I = opt_instance meaning key barrier
+
+  -- what counts of its moves: the extension by the batch alone
+  abbrev CountsAlone : List (List ℕ) → History → Batch → Bool → Bool → Type 0
+  CountsAlone all y b flag fresh =
+      let moves = counted_moves flag (walk still_fates 1 (ask_steps Opt flag fresh b)).moves in
+      AreMessagesIn (messages_of_moves I (counted_part y) moves) all × (foreign_move_values moves ≡ [])
+
+  counts_alone : (all : List (List ℕ)) (y : History) (b : Batch) (flag fresh : Bool)
+      → Contains all (extended_message (register_value_of I (counted_part (record y { is_open = flag }))) (guard barrier b))
+      → CountsAlone all (record y { is_open = flag }) b flag fresh
+  counts_alone all y b true true c = ((c, tt), refl)
+  counts_alone all y b false true c = ((c, tt), refl)
+  counts_alone all y b _ _ c = (tt, refl)
+
+  asked_alone : (all others : List (List ℕ)) (asked : List Batch) (y : History) (offer : List ℕ) (b : Batch) (lacks : Bool)
+      → AreAsked all others asked I y offer b → Contains all (extended_message (register_value_of I (counted_part y)) (guard barrier b))
+      → IsAsked all others asked I y (call_outcome I (digest_level I) (digests_of I y) (still_course lacks) offer b).moves offer b
+  asked_alone all others asked y offer b lacks a c =
+      let d : Digests = digests_of I y in
+      let fresh : Bool = is_fresh (finding_unless_wanting (finding_at I (digest_level I) d b offer) lacks) in
+      let moves : List Move = (walk still_fates 1 (ask_steps Opt y.is_open fresh b)).moves in
+      let k = counts_alone all y b y.is_open fresh c in
+      asked_by I all others asked y moves offer b a k.0 (rw k.1 tt)
+
+  answers_or_lacks : (lacks : Bool) (all others : List (List ℕ)) (asked : List Batch) (y : History) (new : Standing) (offer : List ℕ)
+      (b : Batch) (again : Bool) (result : Result BatchAnswer Refusal) → IsWelcome I y offer b again
+      → CallContinues all others asked I (call_outcome I (list_level I) y (still_course lacks) offer b) new result
+      → AnswersOrLacks I y new b again result
+  answers_or_lacks false all others asked y new offer b again result w k =
+      let o : CallOutcome History = call_outcome I (list_level I) y (still_course false) offer b in
+      let a = complete I y (still_course false) offer b again (record { done = λ n. refl; lacks = refl }) w in
+      subst (AnswersOrLacks I y new b again) (sym (k.gives ∙ ap result_of_ending a.ending))
+      (record { after = o.state; stands = k.stands; batches_are = a.batches; answer_is = refl })
+  answers_or_lacks true all others asked y new offer b again result w k =
+      let same : call_outcome I (list_level I) y (still_course true) offer b ≡ call_outcome_with I (list_level I) y y
+      (still_course true) b (Err Memory) =
+      simp (welcome_found I y offer b again w) in
+      subst (AnswersOrLacks I y new b again) (sym (k.gives ∙ ap (λ (o : CallOutcome History). result_of_ending o.ending) same))
+      (refl, subst (λ (o : CallOutcome History). StandsFor I new o.state) same k.stands)
+
+-- the course by a quiet plan
+course_is : (c : Course) → ((n : ℕ) → c.fates n ≡ still_fates n) → c ≡ still_course c.lacks
+course_is c told_so = λ j. record { fates = λ n. told_so n j; lacks = c.lacks }
+
+pub asked_quietly : {meaning : Meaning} {old new : Standing} {offer request : List ℕ} {result : Result BatchAnswer Refusal}
+    → OptAskPromise meaning old new offer (One request) result → AsksByQuietPlan meaning old new offer request result
+asked_quietly {meaning = meaning} {new = new} {offer = offer} {request = request} {result = result} call on plan key barrier y all others
+    asked again short s a m w =
+    let i : Instance = opt_instance meaning key barrier in
+    let b : Batch = One request in
+    let c = call.goes short in
+    let is : c.course ≡ still_course c.course.lacks = course_is c.course (c.tells quiet_plan on plan refl) in
+    let goes = subst (λ (q : Course). IsAsked all others asked i y (call_outcome i (digest_level i) (digests_of i y) q offer b).moves offer
+    b
+    → CallContinues all others asked i (call_outcome i (list_level i) y q offer b) new result) is
+    (c.continues key barrier y all others asked s) in
+    answers_or_lacks meaning key barrier c.course.lacks all others asked y new offer b again result w
+    (goes (asked_alone meaning key barrier all others asked y offer b c.course.lacks a m))
+
+pub asked_in_memory : (meaning : Meaning) {old middle : Standing} (new : Standing) (offer request : List ℕ)
+    (result : Result BatchAnswer Refusal) → middle ≡ record old { plan = Some quiet_plan }
+    → AsksByQuietPlan meaning middle new offer request result
+    → AsksInMemory meaning old new offer request result
+asked_in_memory meaning {old = old} new offer request result e complete on key barrier y all others asked again short s a m w =
+    let ended : Standing = record old { plan = Some quiet_plan } in
+    complete (ap (λ (x : Standing). x.is_on) e ∙ on) (ap (λ (x : Standing). x.plan) e) key barrier y all others asked again short
+    (subst (λ (x : Standing). StandsFor (opt_instance meaning key barrier) x y) (sym e)
+    (record { spells = s.spells; cell = s.cell; register = s.register })) a m w
+
+-- a first call by a quiet plan doesn't end by a device's fault
+pub asked_faultless : {meaning : Meaning} {old middle : Standing} {offer request : List ℕ} {why : Refusal} {fault : StepFault}
+    (new : Standing) (result : Result BatchAnswer Refusal) → why ≡ Device fault
+    → OptAskPromise meaning old middle offer (One request) (Err why)
+    → AsksByQuietPlan meaning old new offer request result
+asked_faultless {fault = fault} new result is first on plan key barrier y all others asked again short s a m w =
+    let t = asked_quietly first on plan key barrier y all others asked again short s a m w in
+    let clash : Device fault ≡ Memory = sym is ∙ t.0 in
+    absurd (cc)

@@ -12,14 +12,14 @@ use Rattle.mm_callers.proofs.Below.{Meaning, Batch, Content, opt_instance, is_em
 use Rattle.mm_callers.proofs.Below.{digest_level, state_after_moves, state_seen, items_after_moves, AreShown, stands_at, StandsAt}
 use Rattle.mm_callers.proofs.Below.{same_batches}
 use Rattle.mm_model.specs.Chains.{register_of}
-use Rattle.mm_model.specs.HistoryLaws.{values_of-append}
+use Rattle.mm_model.specs.SegmentLaws.{values_of-append}
 use Rattle.mm_model.specs.ListLaws.{each_right}
-use Rattle.mm_model.specs.Sound.{IsSound}
+use Rattle.mm_model.specs.Standing.{IsSound}
 use Rattle.mm_model.proofs.Above.{sound_moved}
-use Rattle.mm_call.specs.AlongLaws.{checkpoint_none, closed_kept}
+use Rattle.mm_call.specs.WalkLaws.{checkpoint_none, closed_kept}
 use Rattle.mm_call.specs.CallPremises.{moves_from_reset}
-use Rattle.mm_call.specs.CheckpointsWords.{checkpoint_ending_by}
-use Rattle.mm_call.specs.ShowingLaws.{shown_same}
+use Rattle.mm_call.specs.Checkpoints.{checkpoint_ending_by}
+use Rattle.mm_call.specs.OfferLaws.{shown_same}
 use Rattle.mm_call.specs.TrailLaws.{foreign_values}
 use Rattle.mm_call.proofs.Above.{AllMay, path_is, sight_is}
 use Rattle.mm_opt.specs.declared.segment.CheckpointRefusal.TheVariants as refusal

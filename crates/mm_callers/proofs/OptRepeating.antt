@@ -9,10 +9,10 @@ use Rattle.mm_callers.proofs.Below.{SaysUnlessFault, MayClose, AreShownUnlessIdl
 use Rattle.mm_callers.proofs.Below.{shown_front, option_map, opt_instance, checkpoint_outcome, IsCallOnCourse, AreAsked, AreShown, StandsAt}
 use Rattle.mm_callers.proofs.Below.{items_after_moves, standing_items, stands_at, placed, right_at, Said, IsCheckpointOnCourse, DigestMoves}
 use Rattle.mm_callers.proofs.Below.{call_terms, CallTerms, call_goes_on, is_long, Answer, foreign_move_values, batch_answer_of, Long, CheckpointRefusal}
-use Rattle.mm_call.specs.ShowingLaws.{shown_same}
+use Rattle.mm_call.specs.OfferLaws.{shown_same}
 use Rattle.mm_opt.specs.AskPromise.{OptAskPromise}
 use Rattle.mm_callers.proofs.Leaving.{answered, asked_on, not_long, After, Left, Offers, not_at_end, once, once_twice, answers_once}
-use Rattle.mm_callers.specs.Closing.{in_first, in_second}
+use Rattle.mm_callers.specs.Opt.{in_first, in_second}
 use Rattle.mm_callers.specs.declared.closing.RepeatRefusal.TheVariants as halted
 use Rattle.mm_callers.proofs.OptCalls.{hands_on, asked_once, left_idle}
 use Rattle.mm_callers.proofs.OptChecking.{may_close_front, may_close_back, closing_foreign, closing_shown, Checked, check_leaves}

@@ -1,11 +1,16 @@
--- What callers count: their calls' steps, and the faults of devices, told and recovered.
-use Rattle.std.specs.Prelude.{◌≡◌, Bool, true, false, None, Result, Ok, Err}
+-- What callers count: their calls' steps, and the faults of devices, told and recovered. With it:
+-- what a caller gets that makes calls in parts.
+use Rattle.std.specs.Prelude.{◌≡◌, Bool, true, false, None, Result, Ok, Err, ℕ, List}
+use Rattle.mm_machine.specs.OpSteps.{OpMeaning}
+use Rattle.mm_machine.specs.declared.operation.OpFinding.{OpFinding}
+use Rattle.mm_model.specs.declared.refusal.Refusal.TheVariants.{Device}
+use Rattle.mm_call.specs.CallKind.{CommitsFinding, CallReads, acts_for, answer_in}
 use Rattle.mm_callers.specs.Below.{Variant, Opt, Standing, StepFault, Batch, is_long, Answer, BatchAnswer, Refusal, Long, CountsHandedFault}
 use Rattle.mm_callers.specs.Below.{batch_answer_of, fault_in, StepsBy, ClosingStepsBy, closing_fault_in, CheckpointRefusal, Checkpointed}
-use Rattle.mm_model.specs.declared.refusal.Refusal.TheVariants.{Device}
-use Rattle.mm_callers.specs.declared.closing.Replies.{Replies}
+use Rattle.mm_callers.specs.Below.{One}
 use Rattle.mm_callers.specs.declared.closing.RepeatRefusal.{RepeatRefusal}
 use Rattle.mm_callers.specs.declared.closing.RepeatRefusal.TheVariants.{Asking, Closing}
+use Rattle.mm_callers.specs.declared.closing.Replies.{Replies}
 
 -- the steps of a call, by what it gives; of a batch that is too long, none
 abbrev pub StepsFor : Bool → Variant → Result BatchAnswer Refusal → Standing → Standing → Type 0
@@ -65,3 +70,17 @@ pub data CountsRepeat (b : Batch) (old new : Standing)
         → CountsCall Opt b old answered (Ok (batch_answer_of first))
         → CountsClosing answered closed (Ok said)
         → CountsCall Opt b closed new (Ok (batch_answer_of second)) → CountsRepeat b old new result
+
+-- What a caller gets that makes calls in parts.
+
+-- Two requests were prepared on one snapshot, one behind the other. What was found for the first
+-- was committed, and this is its answer; of the second nothing was.
+pub record CommitsFirst (asked : Batch → OpMeaning BatchAnswer Refusal) (old new : Standing)
+    (first second : List ℕ) (answer : BatchAnswer) : Type 0 where
+  pub one : Standing
+  pub two : Standing
+  pub found : OpFinding BatchAnswer
+  pub other : OpFinding BatchAnswer
+  pub reads : is_long (One first) ≡ false → CallReads (asked (One first)) old one (Ok found)
+  pub reads_on : is_long (One second) ≡ false → CallReads (asked (One second)) one two (Ok other)
+  pub commits : CommitsFinding (acts_for found) (answer_in found) two new (Ok answer)

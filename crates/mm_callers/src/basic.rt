@@ -3,7 +3,7 @@
 ghost use Rattle.std.specs.Prelude.{◌≡◌};
 ghost use Rattle.mm_digest.specs.declared.variant.Variant.TheVariants.{Basic};
 ghost use Rattle.mm_module.specs.Batch.{One};
-ghost use Rattle.mm_call.specs.Untouched.{batch_result_of};
+ghost use Rattle.mm_call.specs.CallFinding.{batch_result_of};
 ghost use Rattle.mm_callers.specs.Basic.{AsksAgain, AsksTwice};
 ghost use Rattle.mm_callers.specs.Counts.{CountsAgain, CountsNext};
 

@@ -1,7 +1,7 @@
 //! A caller of Opt that closes the segment between a request and the same request once more.
 
 ghost use Rattle.mm_module.specs.Batch.{One};
-ghost use Rattle.mm_callers.specs.Closing.{NeverTwice, RepeatsBehind};
+ghost use Rattle.mm_callers.specs.Opt.{NeverTwice, RepeatsBehind};
 ghost use Rattle.mm_callers.specs.Counts.{CountsRepeat};
 
 use mm_model::{Answer, Refusal};

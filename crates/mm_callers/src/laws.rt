@@ -1,6 +1,6 @@
 //! When a call is answered, each law the contract of a function that does nothing.
 
-ghost use Rattle.mm_callers.specs.Completeness.{BasicCallsAreComplete, OptCallsAreComplete};
+ghost use Rattle.mm_callers.specs.Opt.{BasicCallsAreComplete, OptCallsAreComplete};
 
 /// Where no step fails and memory isn't wanting, a call on a right offer of the last position of a
 /// live history is answered as a new one, and one on a right offer of the position before the batch

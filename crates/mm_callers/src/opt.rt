@@ -2,7 +2,7 @@
 
 ghost use Rattle.mm_digest.specs.declared.variant.Variant.TheVariants.{Opt};
 ghost use Rattle.mm_module.specs.Batch.{One};
-ghost use Rattle.mm_call.specs.Untouched.{batch_result_of};
+ghost use Rattle.mm_call.specs.CallFinding.{batch_result_of};
 ghost use Rattle.mm_callers.specs.Counts.{CountsCall, CountsAgain, CountsNext};
 ghost use Rattle.mm_callers.specs.Opt.{AsksOnce, AsksByQuietPlan, AsksInMemory, AsksTwice, AsksWelcome};
 

@@ -3,12 +3,12 @@
 ghost use Rattle.std.specs.Prelude.{◌≡◌, false, IfOk};
 ghost use Rattle.mm_digest.specs.declared.variant.Variant.TheVariants.{Basic, Opt};
 ghost use Rattle.mm_module.specs.Batch.{One};
-ghost use Rattle.mm_model.specs.Long.{is_long};
-ghost use Rattle.mm_call.specs.CallOnCourse.{IsCallOnCourse};
-ghost use Rattle.mm_call.specs.Refusals.{result_with_fault};
+ghost use Rattle.mm_model.specs.Moves.{is_long};
+ghost use Rattle.mm_call.specs.CallKind.{IsCallOnCourse};
+ghost use Rattle.mm_call.specs.CallFinding.{result_with_fault};
 ghost use Rattle.mm_basic.specs.Operation.{basic_operation};
-ghost use Rattle.mm_opt.specs.Operation.{opt_operation};
-ghost use Rattle.mm_callers.specs.Parts.{CommitsFirst};
+ghost use Rattle.mm_opt.specs.AskPromise.{opt_operation};
+ghost use Rattle.mm_callers.specs.Counts.{CommitsFirst};
 
 use mm_call::Committed;
 use mm_model::{BatchAnswer, Refusal};

@@ -11,15 +11,12 @@ use Rattle.mm_check.proofs.Below.{length-take, most_events, CodeEvent, event_of,
 use Rattle.std.proofs.Common.{Bool}
 use Rattle.std.specs.Prelude.{not}
 use Rattle.mm_numbering.specs.Listing.{first_number_of}
-use Rattle.mm_check.specs.PremiseDecision.{LooksAtEvent}
+use Rattle.mm_check.specs.Numbering.{LooksAtEvent}
 use Rattle.std.proofs.lemmas.List.Sums.{fold-append}
 use Rattle.mm_call.specs.Standing.{instance_by}
-use Rattle.mm_expect.specs.HeardEvent.{HearsEvent}
-use Rattle.mm_expect.specs.OfferDecision.{DecidesLater}
-use Rattle.mm_expect.specs.ExpectedState.{ExpectedState, IsAfter}
+use Rattle.mm_expect.specs.ExpectedState.{HearsEvent, DecidesLater, ExpectedState, IsAfter}
 use Rattle.mm_expect.specs.declared.expecting.ExpectedOutcome.{ExpectedOutcome}
-use Rattle.mm_check.proofs.FewLaws.{heard_few, numbered_few}
-use Rattle.mm_check.proofs.RunLaws.{lines-push}
+use Rattle.mm_check.proofs.FewLaws.{heard_few, numbered_few, lines-push}
 use Rattle.mm_check.proofs.ClearLaws.{clear_run, none_apart}
 use Rattle.mm_check.specs.declared.deciding.Decider.{Decider}
 

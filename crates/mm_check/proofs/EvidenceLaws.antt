@@ -13,11 +13,11 @@ use Rattle.std.proofs.lemmas.Bool.{both_ways}
 use Rattle.std.proofs.lemmas.List.Elements.{All-contains, All-from_recursion}
 use Rattle.std.proofs.lemmas.Map.Keys.{IsDistinct-head, IsDistinct-tail}
 use Rattle.mm_seal.specs.Snapshot.{Content}
-use Rattle.mm_model.specs.Places.{NamesPosition}
+use Rattle.mm_model.specs.Standing.{NamesPosition}
 use Rattle.mm_history.specs.Naming.{IsDecided, is_named}
 use Rattle.mm_evidence.specs.Evidence.{clash, collision, forgery, guarded, IsForged, zero_digest}
 use Rattle.mm_schedule.specs.Events.{Ask, Checkpoint, Extend, Power}
-use Rattle.mm_check.specs.Evidence.{EvidenceIsHeld, IsEvidence, IsForgeryAt, IsSecuredAt, IsSharedAt, IsToldByEvidence, IsZeroAt}
+use Rattle.mm_check.specs.Numbering.{EvidenceIsHeld, IsEvidence, IsForgeryAt, IsSecuredAt, IsSharedAt, IsToldByEvidence, IsZeroAt}
 use Rattle.mm_check.specs.declared.verdicts.Premise.TheVariants.{Held, Shared, Zero, Secured, Forged}
 use Rattle.mm_check.proofs.ClearLaws.{all_once, any_map, first_in, run_same, same_in}
 use Rattle.mm_check.proofs.DecidingLaws.{decided_by}

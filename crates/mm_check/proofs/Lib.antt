@@ -3,7 +3,4 @@ mod ClearLaws
 mod FewLaws
 mod DecidingLaws
 mod EvidenceLaws
-mod ComparingLaws
 mod CheckingLaws
-mod RunLaws
-mod FixedLaws

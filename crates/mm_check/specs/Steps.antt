@@ -3,7 +3,7 @@ use Rattle.std.specs.Prelude.{◌≡◌, ℕ, List, [], Option, None, Some, Resu
 use Rattle.mm_check.specs.Below.{Event, event_of, CodeEvent, Header, RunningReplay, LineRefusal, Bad, Much, ReplyFault}
 use Rattle.mm_play.specs.declared.player.ReplyFault.TheVariants as fault
 use Rattle.mm_check.specs.CheckStage.{RecordedRun, CheckStage, AtHeader, InEvents, InReplies}
-use Rattle.mm_numbering.specs.Guards.{events_of}
+use Rattle.mm_numbering.specs.Listing.{events_of}
 use Rattle.mm_check.specs.declared.player.Phase.{Phase}
 use Rattle.mm_check.specs.declared.player.Phase.TheVariants.{Events, Replies}
 

@@ -1,8 +1,7 @@
 //! A recorded run, from its header to its last line.
 
 ghost use Rattle.std.specs.Prelude.{◌≡◌, ℕ, List, Some, Ok};
-ghost use Rattle.mm_play.specs.Play.{outcome_of_input};
-ghost use Rattle.mm_play.specs.PlaysInput.{IsBlamed, IsUnrefused, is_read_fault, is_write_fault};
+ghost use Rattle.mm_play.specs.PlaysInput.{outcome_of_input, IsBlamed, IsUnrefused, is_read_fault, is_write_fault};
 ghost use Rattle.mm_schedule.specs.Headers.{header_at};
 ghost use Rattle.mm_check.specs.CheckStage.{CheckStage, AtHeader, check_answer, check_closing};
 ghost use Rattle.mm_check.specs.Checks.{ChecksRun, JudgePromise};

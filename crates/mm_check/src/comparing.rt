@@ -32,7 +32,7 @@ pub(crate) struct Comparison {
 }
 
 impl Model for Comparison {
-    ghost use Rattle.mm_numbering.specs.Guards.{events_of};
+    ghost use Rattle.mm_numbering.specs.Listing.{events_of};
     ghost use Rattle.mm_check.specs.CheckStage.{ComparedRun};
     ghost use Rattle.mm_check.specs.Verdicts.{IsComparing};
 

@@ -2,11 +2,10 @@
 
 ghost use Rattle.std.specs.Prelude.{◌≡◌, ◌+◌, ◌-◌, ◌<◌, ◌≤◌, ◌^◌, [], length, take, IfOk, OnOk};
 ghost use Rattle.mm_bytes.specs.Limits.{most_events};
-ghost use Rattle.mm_numbering.specs.Guards.{events_of};
-ghost use Rattle.mm_numbering.specs.Lists.{pair_of};
+ghost use Rattle.mm_numbering.specs.Listing.{events_of, pair_of};
 ghost use Rattle.mm_schedule.specs.Replies.{IsPrintable};
 ghost use Rattle.mm_expect.specs.ExpectedState.{IsAfter};
-ghost use Rattle.mm_check.specs.PremiseDecision.{IsNewDecider, StandsBehind, TakesInEvent, DecidesRun, premise_by};
+ghost use Rattle.mm_check.specs.Numbering.{IsNewDecider, StandsBehind, TakesInEvent, DecidesRun, premise_by};
 
 use crate::lines::{put_last, put_reply};
 use crate::verdicts::Premise;

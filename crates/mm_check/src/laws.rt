@@ -5,8 +5,7 @@ ghost use Rattle.mm_digest.specs.declared.variant.Variant.{Variant};
 ghost use Rattle.mm_module.specs.Meaning.{Meaning};
 ghost use Rattle.mm_call.specs.Standing.{instance_by};
 ghost use Rattle.mm_schedule.specs.Events.{Event};
-ghost use Rattle.mm_check.specs.Evidence.{IsToldByEvidence, EvidenceIsHeld};
-ghost use Rattle.mm_check.specs.Numbering.{PremiseIsFixed};
+ghost use Rattle.mm_check.specs.Numbering.{IsToldByEvidence, EvidenceIsHeld, PremiseIsFixed};
 
 use mm_history::names_are_decided;
 

@@ -3,15 +3,15 @@
 ghost use Rattle.std.specs.Prelude.{◌≡◌, ◌≤◌, ◌++◌, ◌∷◌, [], length, IfOk, OnOk};
 ghost use Rattle.mm_bytes.specs.Limits.{longest_line, most_events};
 ghost use Rattle.mm_replay.specs.Progress.{running_replay};
-ghost use Rattle.mm_schedule.specs.Grammar.{event_at};
+ghost use Rattle.mm_schedule.specs.Events.{event_at};
 ghost use Rattle.mm_schedule.specs.declared.header.Header.{Header};
 ghost use Rattle.mm_schedule.specs.Replies.{IsPrintable, end_line, lines_of_reply};
-ghost use Rattle.mm_outcome.specs.WorldState.{world_of};
+ghost use Rattle.mm_outcome.specs.OneRun.{world_of};
 ghost use Rattle.mm_check.specs.CheckStage.{RecordedRun, InEvents, first_recorded_run, answer_to_event};
 ghost use Rattle.mm_check.specs.Verdicts.{AreVerdicts, RunsBehind, run_lines};
 ghost use Rattle.mm_check.specs.Steps.{LineComesTo, IsEventOf, recorded_run};
-ghost use Rattle.mm_numbering.specs.Guards.{events_of};
-ghost use Rattle.mm_check.specs.PremiseDecision.{DecidesRun};
+ghost use Rattle.mm_numbering.specs.Listing.{events_of};
+ghost use Rattle.mm_check.specs.Numbering.{DecidesRun};
 
 use crate::deciding::{Decision, decide};
 use crate::difference::difference;
@@ -36,7 +36,7 @@ pub(crate) struct ScheduleReader {
 
 impl Model for ScheduleReader {
     ghost use Rattle.mm_replay.specs.Progress.{running_replay};
-    ghost use Rattle.mm_numbering.specs.Guards.{events_of};
+    ghost use Rattle.mm_numbering.specs.Listing.{events_of};
     ghost use Rattle.mm_check.specs.CheckStage.{RecordedRun};
     ghost use Rattle.mm_check.specs.Verdicts.{RunsBehind};
 

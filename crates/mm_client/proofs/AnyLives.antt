@@ -1,30 +1,103 @@
--- What may be relied on in any life.
+-- What may be relied on in any life. With it: each answer that a session told has a position from 1
+-- on.
 use Rattle.std.specs.List.{AllByRecursion}
-use Rattle.std.proofs.Common.{◌≡◌, ◌∙◌, ◌⊎◌, ◌+◌, ◌-◌, ◌≤◌, ℕ, Bool, true, false, List, [], ◌∷◌, ◌++◌, length, take, Option, None, Some, Result, Ok, Err}
-use Rattle.std.proofs.Common.{refl, sym, ap, inl, inr, subst, arith, append_assoc, length-append}
+use Rattle.std.proofs.Common.{◌≡◌, ◌≤◌, ℕ, List, [], ◌∷◌, Option, None, Some, Result, Ok, Err, refl, subst, inl, inr, ◌∙◌, ◌⊎◌, ◌+◌, ◌-◌}
+use Rattle.std.proofs.Common.{Bool, true, false, ◌++◌, length, take, sym, ap, arith, append_assoc, length-append}
 use Rattle.std.proofs.lemmas.List.{append-nil}
 use Rattle.std.proofs.Math.Seq.{take-append_seam}
 use Rattle.mm_module.specs.Batch.{Batch, members_of}
 use Rattle.mm_module.specs.Meaning.{outputs_from}
 use Rattle.mm_module.specs.RunLaws.{state_after-push}
 use Rattle.mm_model.specs.declared.answer.BatchAnswer.{BatchAnswer}
-use Rattle.mm_schedule.specs.Machine.{IsTold}
-use Rattle.mm_client.proofs.Below.{last_bytes_in}
-use Rattle.mm_client.proofs.Below.{Variant, Meaning, One, Standing, Refusal, Resumed, Start, Answered, PendingRecord, each_append, state_after}
-use Rattle.mm_client.proofs.Below.{IsBatchStep, Told, answer_reply, CallSteps, LifeFollows, PartSteps, SessionSteps, Calls, Checkpoints, Extends, LosesPower}
-use Rattle.mm_client.proofs.Below.{Does, Holds, IsLife, LifePart, LifeStage, PartLeads, ServedCall, CallsRunOver, HasUntoldRequest}
-use Rattle.mm_client.proofs.Below.{IsSession, SessionStanding, host_of, SessionFault, SessionGoesAfterResume, TurnGoes, turn_answer_of, lines_of}
-use Rattle.mm_client.proofs.Below.{HostGoesAfterFinding, IsUnbroken, joined_lines, first_served_call, served_calls_in, served_calls_of, served_lines, found_record, IsInHand, IsInHandOf, replies_to, reply_text}
+use Rattle.mm_schedule.specs.Replies.{IsTold}
+use Rattle.mm_client.specs.ClientLife.{AskingTells, OwnOutputsTell, RepliesTellRequests, SessionsSendReplies, TellsSince}
+use Rattle.mm_client.specs.ClientLife.{WholeSessionsTellAll, answer_told, heard_from, life_told, part_told, replies_of, IsTrueReply}
 use Rattle.mm_client.specs.declared.heard.HeardReply.{HeardReply}
-use Rattle.mm_client.specs.AnyLife.{AskingTells, OwnOutputsTell, RepliesTellRequests, SessionsSendReplies, TellsSince, WholeSessionsTellAll}
-use Rattle.mm_client.specs.AnyLife.{answer_told, heard_from, life_told, part_told}
-use Rattle.mm_client.specs.ClientLife.{replies_of}
-use Rattle.mm_client.specs.ServedOnce.{IsTrueReply}
-use Rattle.mm_client.proofs.Beginning.{Began, answers, at_start, found}
-use Rattle.mm_client.proofs.Giving.{LinesGo, lines_go, next_line, served_unbroken}
+use Rattle.mm_client.proofs.Beginning.{ArePositive, Began, answers, at_start, found, LinesGo, lines_go, next_line, served_unbroken}
+use Rattle.mm_client.proofs.Beginning.{all_true_on, runs_grow, step_grows, told_true}
+use Rattle.mm_client.proofs.Below.{Variant, Meaning, Standing, StoreFault, StoreStanding, Answer, Refusal, HostFault, HostStanding, Resumed}
+use Rattle.mm_client.proofs.Below.{Start, Answered, each_append, HostGoesAfterAsk, HostGoesAfterFinding, HostGoesAfterOffer}
+use Rattle.mm_client.proofs.Below.{HostGoesAfterRecord, IsCall, host_of, PendingRecord, ServedCall, ServesCalls, SessionPlace, IsSession}
+use Rattle.mm_client.proofs.Below.{SessionStanding, SessionFault, SessionGoesAfterResume, first_served_call, served_calls_in}
+use Rattle.mm_client.proofs.Below.{result_of_keep, result_of_start, last_bytes_in, One, state_after, IsBatchStep, Told, answer_reply}
+use Rattle.mm_client.proofs.Below.{CallSteps, LifeFollows, PartSteps, SessionSteps, Calls, Checkpoints, Extends, LosesPower, Does, Holds}
+use Rattle.mm_client.proofs.Below.{IsLife, LifePart, LifeStage, PartLeads, CallsRunOver, HasUntoldRequest, TurnGoes, turn_answer_of}
+use Rattle.mm_client.proofs.Below.{lines_of, IsUnbroken, joined_lines, served_calls_of, served_lines, found_record, IsInHand, IsInHandOf}
+use Rattle.mm_client.proofs.Below.{replies_to, reply_text}
 use Rattle.mm_client.proofs.OneSession.{none_served}
-use Rattle.mm_client.proofs.Positions.{session_positive}
-use Rattle.mm_client.proofs.Replies.{all_true_on, runs_grow, step_grows, told_true}
+
+-- Each answer that a session told has a position from 1 on.
+
+kept_is : (a answer : Answer) (written : Result Unit StoreFault) → Ok (Answered answer) ≡ result_of_keep a written → a ≡ answer
+kept_is a answer (Ok it) e = cc
+kept_is a answer (Err why) e = absurd (cc)
+
+asked_is : (asked : Result Answer Refusal) (old new : StoreStanding) (answer : Answer)
+    → HostGoesAfterAsk asked old new (Ok (Answered answer)) → asked ≡ Ok answer
+asked_is (Err why) old new answer g = let e = g.1 in absurd (cc)
+asked_is (Ok a) old new answer g = let e = kept_is a answer g.written g.gives in cc
+
+start_isnt : (zero : Result (List ℕ) StoreFault) (answer : Answer) → Ok (Answered answer) ≡ result_of_start zero → ⊥
+start_isnt (Ok bytes) answer e = cc
+start_isnt (Err why) answer e = cc
+
+begun_is : (begun : Result Resumed HostFault) (first : Resumed) (answer : Answer) → first ≡ Answered answer → begun ≡ Ok first
+    → begun ≡ Ok (Answered answer)
+begun_is begun first answer e b = cc
+
+module _ (variant : Variant) (meaning : Meaning) where
+  pub call_positive : (old new : Standing) (offer request : List ℕ) (asked : Result Answer Refusal) (answer : Answer)
+      → IsCall variant meaning old new offer request asked → asked ≡ Ok answer → 1 ≤ answer.position
+  call_positive old new offer request asked answer c e =
+      (subst (λ (r : Result Answer Refusal). IsCall variant meaning old new offer request r) e c).fits.least
+
+  recorded_positive : (recorded : Result Unit StoreFault) (middle new : HostStanding) (last : Resumed) (line : List ℕ) (answer : Answer)
+      → HostGoesAfterRecord variant meaning recorded middle new last line (Ok (Answered answer)) → 1 ≤ answer.position
+  recorded_positive (Err why) middle new last line answer g = let e = g.1 in absurd (cc)
+  recorded_positive (Ok it) middle new last line answer g =
+      call_positive middle.standing new.standing _ line g.asked answer g.asks (asked_is g.asked middle.kept new.kept answer g.goes)
+
+  lines_positive : (calls : List ServedCall) (from to : SessionPlace) → ServesCalls variant meaning from calls to
+      → ArePositive meaning calls
+  lines_positive [] from to s = tt
+  lines_positive (c ∷ calls) from to s = (
+    recorded_positive s.asks.recorded _ s.host from.last c.line c.answer s.asks.goes,
+    lines_positive calls (record { host = s.host; last = Answered c.answer }) to s.rest,
+  )
+
+  offered_positive : (offer : Result (List ℕ) StoreFault) (middle new : HostStanding) (p : PendingRecord) (answer : Answer)
+      → HostGoesAfterOffer variant meaning offer middle new p (Ok (Answered answer)) → 1 ≤ answer.position
+  offered_positive (Err why) middle new p answer g = let e = g.1 in absurd (cc)
+  offered_positive (Ok offer) middle new p answer g =
+      call_positive middle.standing new.standing offer p.request g.asked answer g.asks
+      (asked_is g.asked middle.kept new.kept answer g.goes)
+
+  found_positive : (waiting : Result (Option PendingRecord) StoreFault) (middle new : HostStanding) (answer : Answer)
+      → HostGoesAfterFinding variant meaning waiting middle new (Ok (Answered answer)) → 1 ≤ answer.position
+  found_positive (Err why) middle new answer g = let e = g.1 in absurd (cc)
+  found_positive (Ok None) middle new answer g = absurd (start_isnt g.1.zero answer g.1.gives)
+  found_positive (Ok (Some p)) middle new answer g = offered_positive g.offer (record middle { kept = g.middle }) new p answer g.goes
+
+  first_positive : (waiting : Option PendingRecord) (first : Resumed) → ((answer : Answer) → first ≡ Answered answer → 1 ≤ answer.position)
+      → ArePositive meaning (first_served_call waiting first)
+  first_positive None first h = tt
+  first_positive (Some p) (Start bytes) h = tt
+  first_positive (Some p) (Answered answer) h = (h answer refl, tt)
+
+  pub session_positive : {old new : SessionStanding} {result : Result Unit SessionFault} (s : IsSession variant meaning old new result)
+      (w : Option PendingRecord)
+      (goes : SessionGoesAfterResume variant meaning s.begun s.middle (host_of new) new.left s.taken s.sent result)
+      → ArePositive meaning (served_calls_in w goes)
+  session_positive s w (inl e) = tt
+  session_positive {old} s w (inr g) =
+      each_append (λ (c : ServedCall). 1 ≤ c.answer.position) (first_served_call w g.first) g.lines.calls
+      (first_positive w g.first (λ answer is.
+      found_positive s.resumes.waiting _ s.middle answer
+      (subst (λ x. HostGoesAfterFinding variant meaning s.resumes.waiting (record (host_of old) { kept = s.resumes.middle }) s.middle x)
+      (begun_is s.begun g.first answer is g.begins) s.resumes.goes)))
+      (lines_positive g.lines.calls (record { host = s.middle; last = g.first }) g.lines.at g.lines.serves)
+
+-- What may be relied on in any life.
 
 abbrev pub IsGrown : List (List ℕ) → List (List ℕ) → Type 0
 IsGrown requests after = (more : List (List ℕ)) × (requests ++ more ≡ after)

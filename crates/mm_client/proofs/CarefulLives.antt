@@ -13,11 +13,9 @@ use Rattle.mm_host.specs.Sessions.{SessionGoesOn}
 use Rattle.mm_client.specs.declared.heard.HeardReply.{HeardReply}
 use Rattle.mm_client.specs.Careful.{AreSomeOf, CarefulClientsRunOnce, CarefulMemory, IsCarefulLife, IsHisPart, careful_memory_after, careful_memory_at, careful_lines, careful_runs}
 use Rattle.mm_client.specs.Careful.{is_told_again, lines_if_his, lines_run_by, new_lines_of, part_lines, untold_lines}
-use Rattle.mm_client.specs.ClientLife.{IsGiven, IsHeard, replies_of}
-use Rattle.mm_client.specs.ServedOnce.{IsTrueReply}
+use Rattle.mm_client.specs.ClientLife.{IsGiven, IsHeard, replies_of, IsTrueReply}
 use Rattle.mm_client.proofs.AnyLives.{IsGrown, asking_tells, part_tells}
-use Rattle.mm_client.proofs.Giving.{LinesGo, drop_unbroken, lines_go, next_line, served_unbroken}
-use Rattle.mm_client.proofs.Replies.{heard_within, step_grows}
+use Rattle.mm_client.proofs.Beginning.{LinesGo, drop_unbroken, lines_go, next_line, served_unbroken, heard_within, step_grows}
 
 take_unbroken : (n : ℕ) (lines : List (List ℕ)) → AllByRecursion IsUnbroken lines → AllByRecursion IsUnbroken (take n lines)
 take_unbroken n lines a =

@@ -10,16 +10,13 @@ use Rattle.mm_client.proofs.Below.{AreNewFrom, AreToldOnce, CallsRunOver, HasUnt
 use Rattle.mm_client.proofs.Below.{reached_position, each_left, one_waiting}
 use Rattle.mm_host.specs.Sessions.{SessionGoesOn}
 use Rattle.mm_client.specs.declared.heard.HeardReply.{HeardReply}
-use Rattle.mm_client.specs.Hearing.{ClientMemory, Hearing, has_heard, heard_position, is_sure_after, lines_to_give, memory_after}
-use Rattle.mm_client.specs.ClientLife.{IsGiven, IsHeard, replies_of}
-use Rattle.mm_client.specs.ServedOnce.{IsTrueReply}
-use Rattle.mm_client.proofs.Beginning.{Began, FirstRun, begins, first_run, lines_run}
-use Rattle.mm_client.proofs.Giving.{LinesGo, given_unbroken, length-served, lines_go, next_line, rest_is, served_unbroken}
-use Rattle.mm_client.proofs.Leaving.{SessionLeaves, as_before, fails, in_hand, keeps_honest, records, session_leaves}
+use Rattle.mm_client.specs.ClientLife.{ClientMemory, Hearing, has_heard, heard_position, is_sure_after, lines_to_give, memory_after}
+use Rattle.mm_client.specs.ClientLife.{IsGiven, IsHeard, replies_of, IsTrueReply}
+use Rattle.mm_client.proofs.Beginning.{Began, FirstRun, begins, first_run, lines_run, LinesGo, given_unbroken, length-served, lines_go}
+use Rattle.mm_client.proofs.Beginning.{next_line, rest_is, served_unbroken, all_true_on, first_positive, heard_all, runs_grow, told_true}
+use Rattle.mm_client.proofs.LocalLives.{SessionLeaves, as_before, fails, in_hand, keeps_honest, records, session_leaves}
 use Rattle.mm_client.proofs.OneSession.{IsNextIn, Stands, first_few, lost_none, moment_then, none_served, reached_so, sure_cases}
-use Rattle.mm_client.proofs.OneSession.{waited_most, waits_least, waits_none, waits_shown, some_is}
-use Rattle.mm_client.proofs.Reading.{IsIn, in_most, record_is, waits_in}
-use Rattle.mm_client.proofs.Replies.{all_true_on, first_positive, heard_all, runs_grow, told_true}
+use Rattle.mm_client.proofs.OneSession.{waited_most, waits_least, waits_none, waits_shown, some_is, IsIn, in_most, record_is, waits_in}
 use Rattle.mm_client.proofs.Trace.{reached_by, shown}
 
 -- what is left of the list where the session began to serve

@@ -1,37 +1,38 @@
--- The sessions that a client had held by a program are a life of a client over one store.
+-- The sessions that a client had held by a program are a life of a client over one store. With it:
+-- what a session that went on leaves in a slot of records; the position of the last reply of some.
 use Rattle.std.specs.List.{AllByRecursion}
 use Rattle.std.specs.Option.{option_map}
-use Rattle.std.proofs.Common.{◌≡◌, ◌≢◌, ◌∙◌, ◌+◌, ◌≤◌, ℕ, Bool, true, false, List, [], ◌∷◌, ◌++◌, length, drop, take, Some, refl, sym, ap, inl, inr, subst, arith}
-use Rattle.std.proofs.Common.{Option, None, Result, Ok}
+use Rattle.std.proofs.Common.{◌≡◌, ◌≢◌, ◌∙◌, ◌+◌, ◌≤◌, ℕ, Bool, true, false, List, [], ◌∷◌, ◌++◌, length, drop, take, Some, refl, sym, ap}
+use Rattle.std.proofs.Common.{inl, inr, subst, arith, Option, None, Result, Ok, ◌<◌, Err, length-append}
 use Rattle.std.proofs.lemmas.List.{take-append-drop}
-use Rattle.mm_bytes.specs.Faults.{CountRose}
-use Rattle.mm_bytes.specs.Limits.{last_position}
+use Rattle.mm_bytes.specs.Limits.{CountRose, last_position}
 use Rattle.mm_base.specs.Input.{joined_lines}
-use Rattle.mm_host.specs.SessionBlame.{is_store_fault}
-use Rattle.mm_host.specs.SessionStanding.{session_standing}
-use Rattle.mm_host.specs.Sessions.{IsSession}
-use Rattle.mm_host.specs.declared.fault.SessionFault.{SessionFault}
-use Rattle.mm_module.specs.Meaning.{IsLawful}
+use Rattle.mm_base.specs.declared.replay_fault.ReplayFault.TheVariants as lines
 use Rattle.mm_platform.specs.Standing.{Item, item_values}
+use Rattle.mm_module.specs.Meaning.{IsLawful}
 use Rattle.mm_play.specs.PlaysInput.{IsBlamed}
-use Rattle.mm_recovery.specs.FirstStart.{InstanceBegins}
-use Rattle.mm_recovery.specs.Init.{Devices, InitGoes, host_among}
+use Rattle.mm_recovery.specs.FirstStart.{InstanceBegins, Devices, InitGoes, host_among}
+use Rattle.mm_host.specs.Continuation.{is_store_fault}
+use Rattle.mm_host.specs.Sessions.{session_standing, IsSession}
+use Rattle.mm_host.specs.declared.fault.SessionFault.{SessionFault}
 use Rattle.mm_life.specs.HonestLife.{GoesOnFrom}
 use Rattle.mm_life.specs.OneStore.{KeepsStore}
 use Rattle.mm_life.specs.Stages.{program_standing, session_stage}
 use Rattle.mm_life.proofs.Above.{Told, started_told}
-use Rattle.mm_client.proofs.Below.{AreNoChance, Basic, Batch, Does, Holds, HostStanding, Instance, IsGoneOnWith, IsLife, IsOverOneStore, LifePart}
-use Rattle.mm_client.proofs.Below.{LifeStage, Meaning, Opt, PartGoesOn, PartLeads, Standing, StoreStanding, Variant, each_left, each_right, end_of}
-use Rattle.mm_client.proofs.Below.{store_at_end}
-use Rattle.mm_client.specs.AnyLife.{life_told, part_told}
-use Rattle.mm_client.specs.ClientLife.{AreNoOthers, IsClientLife}
-use Rattle.mm_client.specs.Hearing.{ClientMemory, Hearing, lines_to_give, memory_after, memory_at}
+use Rattle.mm_client.specs.ClientLife.{life_told, part_told, AreNoOthers, IsClientLife, ClientMemory, Hearing, lines_to_give, memory_after}
+use Rattle.mm_client.specs.ClientLife.{memory_at, AreRounds, heard_position, LivesAsClient}
+use Rattle.mm_client.specs.declared.heard.HeardReply.{HeardReply}
 use Rattle.mm_client.specs.Laws.{BasicClientsAreServedOnce, OptClientsAreServedOnce}
 use Rattle.mm_client.specs.LocalLife.{HearsOutput, HoldsSession, LocalStanding, ServesLocalClient}
-use Rattle.mm_client.specs.Rounds.{AreRounds}
 use Rattle.mm_client.proofs.AnyLives.{replies_tell}
-use Rattle.mm_client.proofs.HeardTold.{IsReadable}
-use Rattle.mm_client.proofs.Hearings.{heard_so, readable}
+use Rattle.mm_client.proofs.Below.{AreNoChance, Basic, Batch, Does, Holds, HostStanding, Instance, IsGoneOnWith, IsLife, IsOverOneStore}
+use Rattle.mm_client.proofs.Below.{LifePart, LifeStage, Meaning, Opt, PartGoesOn, PartLeads, Standing, StoreStanding, Variant, each_left}
+use Rattle.mm_client.proofs.Below.{each_right, end_of, store_at_end, HostFault, Store, Resumed, IsLineFront, longest_request, position_at}
+use Rattle.mm_client.proofs.Below.{SessionPlace, BytesBeginWith, IsAtRest, SendsReply, SessionStopsInLine, TurnGoes, turn_answer_of}
+use Rattle.mm_client.proofs.Below.{reply_text, session_result_of, Host, Lines, ServedCall, ServesCalls, AreNewFrom, HostResumes}
+use Rattle.mm_client.proofs.Hearings.{IsReadable, heard_so, readable}
+use Rattle.mm_client.proofs.Trace.{HoldsRecord, IsAsBefore, LineLeaves, LinesLeave, leaves_honest, line_so, lines_so, resumed_so, then_so}
+use Rattle.mm_client.proofs.Trace as trace
 
 -- seen another way
 pub rounds_on : {S T : Type 0} (view : S → T) (holds : S → S → List (List ℕ) → Hearing → Type 0)
@@ -266,3 +267,138 @@ holds_so variant meaning old new lines heard text given count left left' receive
       blames = blames;
       hears = subst (λ (bytes : List ℕ). HearsOutput bytes result heard) same h;
     }
+
+-- What a session that went on leaves in a slot of records.
+
+pub data SessionLeaves (k : ℕ) (old new : StoreStanding) (reached : ℕ) (last : Resumed) (more : List ℕ)
+    (result : Result Unit SessionFault) : Type 0 where
+  as_before : IsAsBefore k old new → SessionLeaves k old new reached last more result
+  records : (l : Resumed) (line : List ℕ) → HoldsRecord k old new l line → IsLineFront longest_request line
+      → position_at l + 1 ≤ reached → SessionLeaves k old new reached last more result
+  in_hand : (line held : List ℕ) → BytesBeginWith more line held → HoldsRecord k old new last line → result ≢ Ok tt
+      → SessionLeaves k old new reached last more result
+  fails : (line held : List ℕ) → BytesBeginWith more line held → new.is_honest ≡ old.is_honest → result ≡ Err (Host Store)
+      → SessionLeaves k old new reached last more result
+
+-- where the store failed, that is told
+store_told : (came : Result Resumed HostFault) (sent : List ℕ) (fault : SessionFault) → SendsReply came sent (Err fault)
+    → came ≡ Err Store → fault ≡ Host Store
+store_told came sent fault (inl s) e = let told : Err fault ≡ Err (Host Store) = s.1 ∙ ap session_result_of e in cc
+store_told came sent fault (inr s) e = absurd (s.1 (ap reply_text e))
+
+module _ (k : ℕ) (least : 2 ≤ k) (most : k < 4) (variant : Variant) (meaning : Meaning) where
+  hand_so : (at : SessionPlace) (new : HostStanding) (reached : ℕ) (more sent : List ℕ) (fault : SessionFault) (line held : List ℕ)
+      (came : Result Resumed HostFault) → BytesBeginWith more line held → SendsReply came sent (Err fault)
+      → LineLeaves k at.host.kept new.kept at.last line came
+      → SessionLeaves k at.host.kept new.kept reached at.last more (Err fault)
+  hand_so at new reached more sent fault line held came begins says (trace.as_before b) = as_before b
+  hand_so at new reached more sent fault line held came begins says (trace.records h) = in_hand line held begins h (λ e. cc)
+  hand_so at new reached more sent fault line held came begins says (trace.fails x e) =
+      fails line held begins x (ap (λ (f : SessionFault). Err f) (store_told came sent fault says e))
+
+  module _ (number : ℕ) (at : SessionPlace) (new : HostStanding) (left : Option (List ℕ)) (more sent : List ℕ) (reached : ℕ)
+      (honest : at.host.kept.is_honest ≡ true) where
+    stop_so : (fault : SessionFault) → SessionStopsInLine variant meaning number at new more sent fault
+        → SessionLeaves k at.host.kept new.kept reached at.last more (Err fault)
+    stop_so fault e =
+        hand_so at new reached more sent fault e.line e.held e.came e.begins e.says
+        (line_so k least most variant meaning at.host new at.last e.line e.came honest e.asks)
+
+    rest_so : (result : Result Unit SessionFault) → IsAtRest at new sent → SessionLeaves k at.host.kept new.kept reached at.last more result
+    rest_so result r = as_before (record {
+      shows = ap (λ (h : HostStanding). trace.shown h.kept.slots k) r.still;
+      honest = ap (λ (h : HostStanding). h.kept.is_honest) r.still;
+    })
+
+    end_so : (result : Result Unit SessionFault) → TurnGoes variant meaning number at new left more [] sent (turn_answer_of result)
+        → SessionLeaves k at.host.kept new.kept reached at.last more result
+    end_so (Ok it) e = rest_so (Ok it) e.0
+    end_so (Err (Host fault)) e = stop_so (Host fault) e
+    end_so (Err (Lines lines.WriteFault)) e = stop_so (Lines lines.WriteFault) e
+    end_so (Err (Lines lines.Memory)) e = absurd e
+    end_so (Err (Lines lines.ReadFault)) e = rest_so (Err (Lines lines.ReadFault)) e.0
+    end_so (Err (Lines (lines.BadLine n))) e = rest_so (Err (Lines (lines.BadLine n))) e.0
+    end_so (Err (Lines (lines.LineLong n))) e = rest_so (Err (Lines (lines.LineLong n))) e.0
+    end_so (Err (Lines lines.TooMuch)) e = rest_so (Err (Lines lines.TooMuch)) e.0
+
+leaves_then : (k : ℕ) (a b c : StoreStanding) (reached : ℕ) (last : Resumed) (more : List ℕ) (result : Result Unit SessionFault)
+    → IsAsBefore k a b → SessionLeaves k b c reached last more result → SessionLeaves k a c reached last more result
+leaves_then k a b c reached last more result x (as_before y) = as_before (then_so k a b c x y)
+leaves_then k a b c reached last more result x (records l line h f m) =
+    records l line (record { at = h.at; bytes = h.bytes; honest = h.honest ∙ x.honest }) f m
+leaves_then k a b c reached last more result x (in_hand line held g h n) =
+    in_hand line held g (record { at = h.at; bytes = h.bytes; honest = h.honest ∙ x.honest }) n
+leaves_then k a b c reached last more result x (fails line held g y e) = fails line held g (y ∙ x.honest) e
+
+leaves_behind : (k : ℕ) (a b c : StoreStanding) (reached : ℕ) (last : Resumed) (more : List ℕ) (result : Result Unit SessionFault)
+    → LinesLeave k a b reached → SessionLeaves k b c reached last more result → SessionLeaves k a c reached last more result
+leaves_behind k a b c reached last more result (trace.as_before x) y = leaves_then k a b c reached last more result x y
+leaves_behind k a b c reached last more result (trace.records l line h f m) (as_before y) =
+    records l line (record { at = h.at; bytes = λ here e. h.bytes here (sym y.shows ∙ e); honest = y.honest ∙ h.honest }) f m
+leaves_behind k a b c reached last more result (trace.records l line h f m) (records l' line' h' f' m') =
+    records l' line' (record { at = h'.at; bytes = h'.bytes; honest = h'.honest ∙ h.honest }) f' m'
+leaves_behind k a b c reached last more result (trace.records l line h f m) (in_hand line' held g h' n) =
+    in_hand line' held g (record { at = h'.at; bytes = h'.bytes; honest = h'.honest ∙ h.honest }) n
+leaves_behind k a b c reached last more result (trace.records l line h f m) (fails line' held g y e) =
+    fails line' held g (y ∙ h.honest) e
+
+-- from the store that the session found
+pub session_leaves : (k : ℕ) → 2 ≤ k → k < 4 → (variant : Variant) (meaning : Meaning) (old : HostStanding) (middle : HostStanding)
+    (came : Result Resumed HostFault) (first : Resumed) → old.kept.is_honest ≡ true → HostResumes variant meaning old middle came
+    → (calls : List ServedCall) (at : SessionPlace) → ServesCalls variant meaning (record { host = middle; last = first }) calls at
+    → AreNewFrom (position_at first) calls
+    → (number : ℕ) (new : HostStanding) (left : Option (List ℕ)) (more sent : List ℕ) (result : Result Unit SessionFault)
+    → TurnGoes variant meaning number at new left more [] sent (turn_answer_of result)
+    → SessionLeaves k old.kept new.kept (position_at at.last) at.last more result
+session_leaves k least most variant meaning old middle came first honest resumes calls at serves news number new left more sent result
+    ends =
+    let r = resumed_so k least most variant meaning old middle came honest resumes in
+    let l = lines_so k least most variant meaning calls (record { host = middle; last = first }) at serves news (r.honest ∙ honest) in
+    leaves_then k old.kept middle.kept new.kept (position_at at.last) at.last more result r
+    (leaves_behind k middle.kept at.host.kept new.kept (position_at at.last) at.last more result l
+    (end_so k least most variant meaning number at new left more sent (position_at at.last)
+    (leaves_honest k middle.kept at.host.kept (position_at at.last) l ∙ r.honest ∙ honest) result ends))
+
+pub keeps_honest : (k : ℕ) (old new : StoreStanding) (reached : ℕ) (last : Resumed) (more : List ℕ) (result : Result Unit SessionFault)
+    → SessionLeaves k old new reached last more result → new.is_honest ≡ old.is_honest
+keeps_honest k old new reached last more result (as_before b) = b.honest
+keeps_honest k old new reached last more result (records l line h f m) = h.honest
+keeps_honest k old new reached last more result (in_hand line held g h n) = h.honest
+keeps_honest k old new reached last more result (fails line held g x e) = x
+
+-- The position of the last reply of some.
+
+heard_behind : (before : ℕ) (front : List HeardReply) (last : HeardReply) → heard_position before (front ++ last ∷ []) ≡ last.position
+heard_behind before [] last = refl
+heard_behind before (reply ∷ front) last = heard_behind reply.position front last
+
+pub heard_at_end : (before : ℕ) (replies front : List HeardReply) (last : HeardReply) → replies ≡ front ++ last ∷ []
+    → heard_position before replies ≡ last.position
+heard_at_end before replies front last e =
+    ap (λ (xs : List HeardReply). heard_position before xs) e ∙ heard_behind before front last
+
+-- one session more
+pub rounds_then : {S : Type 0} (holds : S → S → List (List ℕ) → Hearing → Type 0) (base : ℕ) (wanted : List (List ℕ)) (old middle new : S)
+    (hearings : List Hearing) (before between : ClientMemory) (heard : Hearing)
+    → AreRounds holds base wanted old hearings before middle between → holds middle new (lines_to_give base wanted between) heard
+    → AreRounds holds base wanted old (hearings ++ heard ∷ []) before new (memory_after between heard)
+rounds_then {S} holds base wanted old middle new [] before between heard r h =
+    let given : holds old new (lines_to_give base wanted before) heard =
+    subst (λ (x : S). holds x new (lines_to_give base wanted before) heard) r.0
+    (subst (λ (m : ClientMemory). holds middle new (lines_to_give base wanted m) heard) r.1 h) in
+    (new, given, (refl, ap (λ (m : ClientMemory). memory_after m heard) r.1))
+rounds_then {S} holds base wanted old middle new (x ∷ hearings) before between heard r h =
+    (r.0, r.1, rounds_then holds base wanted r.0 middle new hearings (memory_after before x) between heard r.2 h)
+
+pub lives_then : {S : Type 0} (holds : S → S → List (List ℕ) → Hearing → Type 0) (base : ℕ) (wanted : List (List ℕ)) (old middle new : S)
+    (before between after : ClientMemory) (rounds : ℕ) (lines : List (List ℕ)) (heard : Hearing)
+    → LivesAsClient holds base wanted old middle before between rounds → lines ≡ lines_to_give base wanted between
+    → holds middle new lines heard → after ≡ memory_after between heard
+    → LivesAsClient holds base wanted old new before after (rounds + 1)
+lives_then holds base wanted old middle new before between after rounds lines heard l given h remembers = record {
+  hearings = l.hearings ++ heard ∷ [];
+  count = length-append l.hearings (heard ∷ []) ∙ ap (λ (n : ℕ). n + 1) l.count;
+  lives = subst (λ (m : ClientMemory). AreRounds holds base wanted old (l.hearings ++ heard ∷ []) before new m) (sym remembers)
+      (rounds_then holds base wanted old middle new l.hearings before between heard l.lives
+      (subst (λ (xs : List (List ℕ)). holds middle new xs heard) given h));
+}

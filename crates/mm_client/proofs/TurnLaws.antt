@@ -11,15 +11,13 @@ use Rattle.mm_client.proofs.Below.{Does, Holds, PartLeads, Program, session_on, 
 use Rattle.mm_client.proofs.Below.{Variant, Meaning, basic_instance, opt_instance, BasicLifeGoesOn, OptLifeGoesOn, IsGoneOnWith, IsOverOneStore}
 use Rattle.mm_client.proofs.Below.{AreNoChance, clash_or, life_batches, life_messages, opt_messages, others_values, store_at_end}
 use Rattle.mm_life.specs.HonestLife.{BeginsOver, GoesOnFrom, store_behind}
-use Rattle.mm_client.specs.ClientLife.{AreNoOthers, LeavesNoOther, replies_of}
-use Rattle.mm_client.specs.Hearing.{ClientMemory, Hearing, heard_position, memory_after, memory_at}
-use Rattle.mm_client.specs.Turns.{BasicTurnsAreServedOnce, IsServedByTurns, IsServedInTurn, IsTurn, OptTurnsAreServedOnce, TellsPosition}
+use Rattle.mm_client.specs.ClientLife.{AreNoOthers, LeavesNoOther, replies_of, ClientMemory, Hearing, heard_position, memory_after}
+use Rattle.mm_client.specs.ClientLife.{memory_at}
+use Rattle.mm_client.specs.Careful.{BasicTurnsAreServedOnce, IsServedByTurns, IsServedInTurn, IsTurn, OptTurnsAreServedOnce, TellsPosition}
 use Rattle.mm_client.proofs.Beginning.{begins, first_run}
-use Rattle.mm_client.proofs.Leaving.{keeps_honest, session_leaves}
-use Rattle.mm_client.proofs.OneSession.{Stands, same_waits}
-use Rattle.mm_client.proofs.Reading.{waits_in}
-use Rattle.mm_client.proofs.ServedLaws.{fits_end}
-use Rattle.mm_client.proofs.ServedLives.{fits_ahead, served_at, session_behind, told_same}
+use Rattle.mm_client.proofs.LocalLives.{keeps_honest, session_leaves}
+use Rattle.mm_client.proofs.OneSession.{Stands, same_waits, waits_in}
+use Rattle.mm_client.proofs.ServedLives.{fits_end, fits_ahead, served_at, session_behind, told_same}
 use Rattle.mm_client.proofs.Trace.{resumed_so}
 
 -- anybody's session leaves the store as honest

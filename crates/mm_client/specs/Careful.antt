@@ -1,13 +1,15 @@
--- A careful client, where others ask at any time, or write the slots.
-use Rattle.std.specs.Prelude.{◌≡◌, ◌≤◌, ℕ, Bool, true, false, List, [], ◌∷◌, ◌++◌, drop, take, length, nat_eq, Option, Result, if◌then◌else◌, ◌⊎◌}
+-- A careful client, where others ask at any time, or write the slots. With it: clients who take
+-- turns over one honest store.
 use Rattle.std.specs.List.{AllByRecursion}
+use Rattle.std.specs.Prelude.{◌≡◌, ◌≤◌, ℕ, Bool, true, false, List, [], ◌∷◌, ◌++◌, drop, take, length, nat_eq, Option, Result}
+use Rattle.std.specs.Prelude.{if◌then◌else◌, ◌⊎◌, Some}
 use Rattle.std.proofs.Common.{inl, inr}
 use Rattle.mm_client.specs.Below.{Variant, Standing, Meaning, ServedCall, SessionFault, HasUntoldRequest, HostFault, HostStanding, Resumed}
-use Rattle.mm_client.specs.Below.{IsUnbroken}
-use Rattle.mm_client.specs.Below.{SessionGoesAfterResume, Does, Holds, IsLife, LifeFollows, LifePart, LifeStage, PartLeads, PartSteps, served_calls_of}
+use Rattle.mm_client.specs.Below.{IsUnbroken, SessionGoesAfterResume, Does, Holds, IsLife, LifeFollows, LifePart, LifeStage, PartLeads}
+use Rattle.mm_client.specs.Below.{PartSteps, served_calls_of, Instance, Batch, StoreStanding, IsGoneOnWith, PartGoesOn}
+use Rattle.mm_client.specs.ClientLife.{IsGiven, IsHeard, Hearing, heard_position, IsClientLife, ClientMemory, memory_at, IsServedFrom}
 use Rattle.mm_client.specs.declared.heard.HeardReply.{HeardReply}
-use Rattle.mm_client.specs.ClientLife.{IsGiven, IsHeard}
-use Rattle.mm_client.specs.Hearing.{Hearing, heard_position}
+use Rattle.mm_client.specs.Laws.{IsKeptInBasic, IsKeptInOpt}
 
 -- The lines that he doesn't take for done; the position that he was told last before he sent more;
 -- and whether he may send.
@@ -121,3 +123,58 @@ CarefulClientsRunOnce =
     AreSomeOf
     (careful_runs variant meaning start stages f (careful_memory_at wanted position) after c known
     requests l) wanted
+
+-- Clients who take turns over one honest store.
+
+-- a session without a line told one reply, of this position
+abbrev pub TellsPosition : (variant : Variant) (meaning : Meaning) (old : Standing)
+    (part : LifePart) (new : Standing) → PartLeads variant meaning old part new → ℕ → Type 0
+TellsPosition variant meaning old (Holds p) new s position =
+    (p.old.left ≡ Some []) × (c : ServedCall) × (served_calls_of s ≡ c ∷ [])
+    × (c.answer.position ≡ position)
+TellsPosition variant meaning old (Does deed) new f position = ⊥
+
+-- Behind any stages, whoever asked in them, a client is told a position so; from there on he alone
+-- asks, and wants these lines.
+module _ (wanted : List (List ℕ)) (variant : Variant) (meaning : Meaning) where
+  abbrev pub IsTurn : (start : Standing) (stages : List LifeStage)
+      → IsLife variant meaning start stages → ClientMemory → Type 0
+  IsTurn start [] f after = ⊥
+  IsTurn start (stage ∷ stages) f after =
+      IsTurn stage.after stages f.1 after
+      ⊎ ((base : ℕ) × TellsPosition variant meaning start stage.part stage.after f.0 base
+      × IsClientLife base wanted variant meaning stage.after stages f.1 (memory_at base) after)
+
+-- There were so many requests then, and from there on he is served.
+module _ (all others : List (List ℕ)) (asked : List Batch) (i : Instance)
+    (wanted : List (List ℕ)) where
+  abbrev pub IsServedInTurn : (start : Standing) (stages : List LifeStage)
+      (f : IsLife i.variant i.meaning start stages) (after : ClientMemory)
+      → IsTurn wanted i.variant i.meaning start stages f after → (requests left : List (List ℕ))
+      → Type 0
+  IsServedInTurn start [] f after t requests left = ⊥
+  IsServedInTurn start (stage ∷ stages) f after (inl later) requests left =
+      (between : List (List ℕ))
+      × PartGoesOn all others asked i start stage.part stage.after f.0 requests between
+      × IsServedInTurn stage.after stages f.1 after later between left
+  IsServedInTurn start (stage ∷ stages) f after (inr turn) requests left =
+      (between : List (List ℕ))
+      × PartGoesOn all others asked i start stage.part stage.after f.0 requests between
+      × (length between ≡ turn.0)
+      × IsServedFrom all others asked i turn.0 between wanted stage.after stages f.1
+      (memory_at turn.0) after turn.2 between left
+
+pub record IsServedByTurns (all others : List (List ℕ)) (asked : List Batch) (i : Instance)
+    (kept : StoreStanding) (start : Standing) (stages : List LifeStage)
+    (f : IsLife i.variant i.meaning start stages) (wanted : List (List ℕ)) : Type 0 where
+  pub gone : IsGoneOnWith all others asked i kept start stages f
+  pub served : (after : ClientMemory)
+      (t : IsTurn wanted i.variant i.meaning start stages f after)
+      → IsServedInTurn all others asked i wanted start stages f after t [] gone.after
+
+-- so it is of each turn of a life over one honest store
+abbrev pub BasicTurnsAreServedOnce : Type 0
+BasicTurnsAreServedOnce = IsKeptInBasic IsServedByTurns
+
+abbrev pub OptTurnsAreServedOnce : Type 0
+OptTurnsAreServedOnce = IsKeptInOpt IsServedByTurns

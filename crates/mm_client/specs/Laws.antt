@@ -4,8 +4,7 @@ use Rattle.std.specs.List.{AllByRecursion}
 use Rattle.mm_client.specs.Below.{Basic, Opt, Standing, Batch, Instance, IsLawful, IsUnbroken, Meaning, first_history, basic_instance, opt_instance, StandsFor, StoreStanding}
 use Rattle.mm_client.specs.Below.{AreNoChance, HasClash, IsLife, IsOverOneStore, LifeStage, first_history_on, first_slots, life_batches, life_messages}
 use Rattle.mm_client.specs.Below.{opt_messages, others_values}
-use Rattle.mm_client.specs.ClientLife.{AreNoOthers}
-use Rattle.mm_client.specs.ServedOnce.{IsServedOnce}
+use Rattle.mm_client.specs.ClientLife.{AreNoOthers, IsServedOnce}
 
 -- What a client of lines may be promised of a life over one store, by its messages, the values of
 -- others, and its batches.

@@ -1,11 +1,5 @@
 pub mod Below
-pub mod Hearing
 pub mod ClientLife
-pub mod ServedOnce
 pub mod Laws
-pub mod Turns
-pub mod AnyLife
-pub mod Rounds
 pub mod Careful
-pub mod Output
 pub mod LocalLife

@@ -1,24 +1,58 @@
--- A client of one program, whose platform and store are its own: what each session comes to, and
--- what all of them are.
-use Rattle.std.specs.Prelude.{◌≡◌, ◌⊎◌, ℕ, true, List, [], ◌++◌, drop, take, length, Option, Some, Result, Ok, Err}
+-- A client of one program, whose platform and store are its own. With it: what a client reads of
+-- the output of a session.
 use Rattle.std.specs.List.{AllByRecursion}
+use Rattle.std.specs.Prelude.{ℕ, List, [], ◌∷◌, Option, None, Some, codes, ◌≡◌, ◌⊎◌, true, ◌++◌, drop, take, length, Result, Ok, Err}
+use Rattle.mm_bytes.specs.Limits.{decimal_number}
+use Rattle.mm_base.specs.Input.{lines_of}
 use Rattle.mm_base.specs.declared.replay_fault.ReplayFault.TheVariants.{WriteFault}
-use Rattle.mm_host.specs.SessionBlame.{is_store_fault}
-use Rattle.mm_host.specs.SessionStanding.{session_standing}
-use Rattle.mm_host.specs.declared.fault.SessionFault.TheVariants.{Lines}
+use Rattle.mm_schedule.specs.Headers.{◌>>=◌, rest_after_prefix, word_at}
 use Rattle.mm_play.specs.PlaysInput.{IsBlamed}
-use Rattle.mm_recovery.specs.FirstStart.{InstanceBegins, ShowsValues}
+use Rattle.mm_store.specs.StoreStanding.{Slots}
+use Rattle.mm_recovery.specs.FirstStart.{InstanceBegins, ShowsValues, Devices}
 use Rattle.mm_recovery.specs.HostStanding.{host_standing}
-use Rattle.mm_recovery.specs.Init.{Devices}
-use Rattle.mm_store.specs.Slots.{Slots}
+use Rattle.mm_host.specs.Continuation.{is_store_fault}
+use Rattle.mm_host.specs.Sessions.{session_standing}
+use Rattle.mm_host.specs.declared.fault.SessionFault.TheVariants.{Lines}
 use Rattle.mm_life.specs.HonestLife.{store_at_end}
 use Rattle.mm_client.specs.Below.{Variant, Basic, Opt, Standing, Meaning, StoreStanding, IsUnbroken, basic_instance, opt_instance}
-use Rattle.mm_client.specs.Below.{HostStanding, SessionFault, IsSession, IsLife, LifeStage}
-use Rattle.mm_client.specs.Below.{IsOverOneStore, HasClash, end_of, life_batches, life_messages, opt_messages, others_values}
-use Rattle.mm_client.specs.Hearing.{ClientMemory, Hearing, memory_at}
-use Rattle.mm_client.specs.ClientLife.{IsClientLife, IsGiven}
-use Rattle.mm_client.specs.Output.{replies_in}
-use Rattle.mm_client.specs.ServedOnce.{IsServedOnce}
+use Rattle.mm_client.specs.Below.{HostStanding, SessionFault, IsSession, IsLife, LifeStage, IsOverOneStore, HasClash, end_of, life_batches}
+use Rattle.mm_client.specs.Below.{life_messages, opt_messages, others_values}
+use Rattle.mm_client.specs.ClientLife.{ClientMemory, Hearing, memory_at, IsClientLife, IsGiven, IsServedOnce}
+use Rattle.mm_client.specs.declared.heard.HeardReply.{HeardReply}
+
+-- What a client reads of the output of a session: its replies.
+
+-- one reading, and where it finds nothing another
+abbrev pub first_found : {A : Type 0} → Option A → Option A → Option A
+first_found None other = other
+first_found (Some x) other = Some x
+
+-- what stands behind the word by which a reply begins
+abbrev pub rest_behind_word : List ℕ → Option (List ℕ)
+rest_behind_word line =
+    first_found (rest_after_prefix (codes "ok ") line) (rest_after_prefix (codes "again ") line)
+
+-- the reply that a line is: a word, a position and an output, with a space between them
+abbrev pub reply_in : List ℕ → Option HeardReply
+reply_in line =
+    rest_behind_word line >>= λ rest. word_at rest >>= λ parts. decimal_number parts.0 >>=
+    λ position. Some (record { position = position; output = parts.1 })
+
+-- a reply before others, where a line is one
+abbrev pub with_reply : Option HeardReply → List HeardReply → List HeardReply
+with_reply None replies = replies
+with_reply (Some reply) replies = reply ∷ replies
+
+abbrev pub replies_in_lines : List (List ℕ) → List HeardReply
+replies_in_lines [] = []
+replies_in_lines (line ∷ lines) = with_reply (reply_in line) (replies_in_lines lines)
+
+-- the replies in an output, of its whole lines alone
+abbrev pub replies_in : List ℕ → List HeardReply
+replies_in output = replies_in_lines (lines_of output)
+
+-- A client of one program, whose platform and store are its own: what each session comes to, and
+-- what all of them are.
 
 -- The first bytes of an output are heard, and the replies in them. All is heard only where the
 -- session ended with Ok; and where the output failed, nothing.

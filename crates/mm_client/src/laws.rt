@@ -1,9 +1,8 @@
 //! Laws of a client, each the contract of a function that does nothing, or calls what it needs.
 
-ghost use Rattle.mm_client.specs.AnyLife.{AskingTells, OwnOutputsTell, RepliesTellRequests, SessionsSendReplies, WholeSessionsTellAll};
-ghost use Rattle.mm_client.specs.Careful.{CarefulClientsRunOnce};
+ghost use Rattle.mm_client.specs.ClientLife.{AskingTells, OwnOutputsTell, RepliesTellRequests, SessionsSendReplies, WholeSessionsTellAll};
+ghost use Rattle.mm_client.specs.Careful.{CarefulClientsRunOnce, BasicTurnsAreServedOnce, OptTurnsAreServedOnce};
 ghost use Rattle.mm_client.specs.Laws.{BasicClientsAreServedOnce, OptClientsAreServedOnce};
-ghost use Rattle.mm_client.specs.Turns.{BasicTurnsAreServedOnce, OptTurnsAreServedOnce};
 
 use mm_life::{basic_life_goes_on, opt_life_goes_on};
 

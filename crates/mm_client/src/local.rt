@@ -3,11 +3,11 @@
 
 ghost use Rattle.std.specs.Prelude.{◌≡◌, ◌++◌, ℕ, List, IfOk, take};
 ghost use Rattle.mm_base.specs.Input.{joined_lines};
-ghost use Rattle.mm_client.specs.Hearing.{Hearing};
-ghost use Rattle.mm_host.specs.SessionBlame.{is_write_fault};
+ghost use Rattle.mm_client.specs.ClientLife.{Hearing};
+ghost use Rattle.mm_host.specs.Continuation.{is_write_fault};
 ghost use Rattle.mm_client.specs.LocalLife.{HearsOutput, HoldsSession, ServesLocalClient, local_standing};
 ghost use Rattle.mm_recovery.specs.HostStanding.{host_standing};
-ghost use Rattle.mm_recovery.specs.Init.{devices};
+ghost use Rattle.mm_recovery.specs.FirstStart.{devices};
 
 use crate::laws::{basic_clients_are_served_once, opt_clients_are_served_once};
 use crate::output::replies_in;

@@ -2,7 +2,7 @@
 
 ghost use Rattle.std.specs.Prelude.{◌≡◌, ◌∷◌, ◌++◌, IfOk, MatchOption, option_copied};
 ghost use Rattle.mm_base.specs.Input.{IsUnbroken};
-ghost use Rattle.mm_client.specs.Output.{rest_behind_word, replies_in, reply_in};
+ghost use Rattle.mm_client.specs.LocalLife.{rest_behind_word, replies_in, reply_in};
 
 use crate::heard::HeardReply;
 use mm_bytes::{Bytes, Memory, read_decimal};

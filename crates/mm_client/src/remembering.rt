@@ -1,7 +1,7 @@
 //! A client: what he heard of a session, what he remembers, and what he gives to the next one.
 
 ghost use Rattle.std.specs.Prelude.{◌≡◌, IfOk};
-ghost use Rattle.mm_client.specs.Hearing.{heard_position};
+ghost use Rattle.mm_client.specs.ClientLife.{heard_position};
 
 use crate::heard::HeardReply;
 use mm_bytes::{Bytes, Memory};
@@ -17,7 +17,7 @@ pub struct HeardSession {
 }
 
 impl Model for HeardSession {
-    ghost use Rattle.mm_client.specs.Hearing.{Hearing};
+    ghost use Rattle.mm_client.specs.ClientLife.{Hearing};
 
     ghost Value = { Hearing };
 
@@ -28,7 +28,7 @@ impl Model for HeardSession {
 }
 
 impl HeardSession {
-    ghost use Rattle.mm_client.specs.Hearing.{hearing_of};
+    ghost use Rattle.mm_client.specs.ClientLife.{hearing_of};
 
     /// These replies were heard, and all or not.
     pub fn new(replies: Vec<HeardReply>, is_whole: bool) -> HeardSession
@@ -48,7 +48,7 @@ pub struct Client {
 }
 
 impl Model for Client {
-    ghost use Rattle.mm_client.specs.Hearing.{ClientMemory};
+    ghost use Rattle.mm_client.specs.ClientLife.{ClientMemory};
 
     ghost Value = { ClientMemory };
 
@@ -60,7 +60,7 @@ impl Model for Client {
 }
 
 impl Client {
-    ghost use Rattle.mm_client.specs.Hearing.{memory_after, memory_at, lines_to_give};
+    ghost use Rattle.mm_client.specs.ClientLife.{memory_after, memory_at, lines_to_give};
 
     /// A client who counts from this position, and heard nothing yet. Takes no memory.
     pub fn new(alloc: Global, base: u64) -> Client

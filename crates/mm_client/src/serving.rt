@@ -1,8 +1,7 @@
 //! A client who lives by the rule, over any program that holds sessions for him.
 
 ghost use Rattle.std.specs.Prelude.{IfOk, ℕ, List};
-ghost use Rattle.mm_client.specs.Hearing.{Hearing, memory_at};
-ghost use Rattle.mm_client.specs.Rounds.{LivesAsClient};
+ghost use Rattle.mm_client.specs.ClientLife.{Hearing, memory_at, LivesAsClient};
 
 use crate::remembering::{Client, HeardSession};
 use mm_bytes::{Bytes, Memory};

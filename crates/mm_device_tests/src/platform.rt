@@ -2,8 +2,7 @@
 
 ghost use Rattle.std.specs.Prelude.{◌≡◌, ◌≤◌, Some};
 ghost use Rattle.std.specs.Result.{result_err};
-ghost use Rattle.mm_platform.specs.Standing.{Plan};
-ghost use Rattle.mm_platform.specs.Calls.{read_extend_write, ActsAsTold, ActsUntold};
+ghost use Rattle.mm_platform.specs.Standing.{Plan, read_extend_write, ActsAsTold, ActsUntold};
 
 use mm_bytes::CELL_LENGTH;
 use mm_digest::{Digest, zero};

@@ -1,7 +1,7 @@
 //! What no clause says of the store in memory.
 
 ghost use Rattle.std.specs.Prelude.{◌≡◌, Some, true, OnOk};
-ghost use Rattle.mm_store.specs.Slots.{Slots, slots_with, slot_front};
+ghost use Rattle.mm_store.specs.StoreStanding.{Slots, slots_with, slot_front};
 
 use mm_store::{LONGEST_SLOT, MemStore, Store, StoreFault};
 use std::alloc::{AllocError, Global};

@@ -2,7 +2,7 @@
 use Rattle.std.proofs.Common.{ℕ, ◌≡◌, ◌+◌, ◌<◌, ◌≤◌, List, [], ◌∷◌, ◌++◌, length, map, get_or, set, take, drop, replicate, bit_xor, ap, sym}
 use Rattle.std.proofs.Common.{◌∙◌, append_assoc, arith}
 use Rattle.std.proofs.lemmas.List.{drop-replicate, take_more, take_more_set, map-append, take_all, take_at, length-append}
-use Rattle.mm_digest.specs.HmacWords.{padded_block, masked_block}
+use Rattle.mm_digest.specs.Messages.{padded_block, masked_block}
 
 -- bytes written in front of a block of zero bytes are padded with zero bytes
 pub padded_block-parts : (bytes front back : List ℕ) → front ≡ bytes →

@@ -3,8 +3,7 @@ use Rattle.std.proofs.Common.{ℕ, ◌≡◌, ◌<◌, List, [], ◌∷◌, leng
 use Rattle.std.proofs.lemmas.List.Elements.{All-nil, All-cons}
 use Rattle.sha2.proofs.Facts256.{length-sha256}
 use Rattle.mm_digest.specs.declared.variant.Variant.{Variant}
-use Rattle.mm_digest.specs.Messages.{IsBytes, zero_bytes, start_digest_of, anchored_digest_of, extended_digest_of}
-use Rattle.mm_digest.specs.Hmac.{hmac_of}
+use Rattle.mm_digest.specs.Messages.{IsBytes, zero_bytes, start_digest_of, anchored_digest_of, extended_digest_of, hmac_of}
 
 four_bytes : (a b c d : ℕ) → a < 256 → b < 256 → c < 256 → d < 256 → IsBytes (a ∷ b ∷ c ∷ d ∷ [])
 four_bytes a b c d ha hb hc hd =

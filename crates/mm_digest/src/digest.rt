@@ -2,8 +2,8 @@
 
 ghost use Rattle.std.specs.Prelude.{◌≡◌, ◌<◌, [], ◌∷◌, ◌++◌, length};
 ghost use Rattle.sha2.specs.Sha256.{sha256};
-ghost use Rattle.mm_digest.specs.Messages.{zero_bytes, start_digest_of, anchored_digest_of, extended_digest_of};
-ghost use Rattle.mm_digest.specs.MessagesWords.{successor_digest_of, secured_digest_of, successor_batch_digest_of, secured_batch_digest_of};
+ghost use Rattle.mm_digest.specs.Messages.{zero_bytes, start_digest_of, anchored_digest_of, extended_digest_of, successor_digest_of};
+ghost use Rattle.mm_digest.specs.Messages.{secured_digest_of, successor_batch_digest_of, secured_batch_digest_of};
 
 use crate::variant::Variant;
 use sha2::{Digest as _, Sha256};
@@ -34,7 +34,7 @@ pub fn start(variant: Variant, id: u8) -> Digest
 }
 
 /// The summary after one more request: SHA-256 of byte 01, the summary and the request.
-#[tactic(auto, unfolding(crate::specs::MessagesWords::successor_digest_of))]
+#[tactic(auto, unfolding(crate::specs::Messages::successor_digest_of))]
 pub fn successor(summary: &Digest, request: &[u8]) -> Digest
     ensures { result.bytes ≡ successor_digest_of summary.now.bytes request.now }
 {
@@ -42,7 +42,7 @@ pub fn successor(summary: &Digest, request: &[u8]) -> Digest
 }
 
 /// The register's value for one request: SHA-256 of byte 02, the barrier and the request.
-#[tactic(auto, unfolding(crate::specs::MessagesWords::secured_digest_of))]
+#[tactic(auto, unfolding(crate::specs::Messages::secured_digest_of))]
 pub fn secured(barrier: &[u8; 32], request: &[u8]) -> Digest
     ensures { result.bytes ≡ secured_digest_of barrier.now request.now }
 {
@@ -60,7 +60,7 @@ pub fn anchored(anchor: &Digest, register: &Digest) -> Digest
 
 /// The summary after a batch of several requests: SHA-256 of byte 04, the summary and the batch's
 /// text, which is its requests joined by TAB.
-#[tactic(auto, unfolding(crate::specs::MessagesWords::successor_batch_digest_of))]
+#[tactic(auto, unfolding(crate::specs::Messages::successor_batch_digest_of))]
 pub fn successor_batch(summary: &Digest, text: &[u8]) -> Digest
     ensures { result.bytes ≡ successor_batch_digest_of summary.now.bytes text.now }
 {
@@ -69,7 +69,7 @@ pub fn successor_batch(summary: &Digest, text: &[u8]) -> Digest
 
 /// The register's value for a batch of several requests: SHA-256 of byte 05, the barrier and the
 /// batch's text, which is its requests joined by TAB.
-#[tactic(auto, unfolding(crate::specs::MessagesWords::secured_batch_digest_of))]
+#[tactic(auto, unfolding(crate::specs::Messages::secured_batch_digest_of))]
 pub fn secured_batch(barrier: &[u8; 32], text: &[u8]) -> Digest
     ensures { result.bytes ≡ secured_batch_digest_of barrier.now text.now }
 {

@@ -3,8 +3,7 @@
 ghost use Rattle.std.specs.Prelude.{◌≡◌, ◌≤◌, ◌++◌, List, ℕ, length};
 ghost use Rattle.sha2.specs.Sha256.{sha256};
 ghost use Rattle.sha2.specs.Hashers.{Holds256};
-ghost use Rattle.mm_digest.specs.Hmac.{hmac_of};
-ghost use Rattle.mm_digest.specs.HmacWords.{padded_block, key_block, masked_block};
+ghost use Rattle.mm_digest.specs.Messages.{hmac_of, padded_block, key_block, masked_block};
 
 use crate::digest::Digest;
 use sha2::{Digest as _, Sha256};
@@ -43,7 +42,7 @@ impl HmacKey {
     }
 
     /// The tag of a text of any length under this key, as [`hmac_sha256`] gives it.
-    #[tactic(auto, unfolding(crate::specs::Hmac::hmac_of))]
+    #[tactic(auto, unfolding(crate::specs::Messages::hmac_of))]
     pub fn tag(&self, text: &[u8]) -> Digest
         ensures { result.bytes ≡ hmac_of self.now text.now }
     {
@@ -52,7 +51,7 @@ impl HmacKey {
 
     /// The tag of a text in three parts, which follow one another, as [`hmac_sha256`] gives it of
     /// them joined. Takes no memory.
-    #[tactic(auto, unfolding(crate::specs::Hmac::hmac_of))]
+    #[tactic(auto, unfolding(crate::specs::Messages::hmac_of))]
     pub fn tag_of_three(&self, first: &[u8], second: &[u8], third: &[u8]) -> Digest
         ensures { result.bytes ≡ hmac_of self.now (first.now ++ (second.now ++ third.now)) }
     {
@@ -71,7 +70,7 @@ impl HmacKey {
 
 /// The tag of a text under a key, of any lengths: HMAC of RFC 2104 over SHA-256, with blocks of
 /// 64 bytes. A key of more than 64 bytes is replaced by its SHA-256.
-#[tactic(auto, unfolding(crate::specs::Hmac::hmac_of))]
+#[tactic(auto, unfolding(crate::specs::Messages::hmac_of))]
 pub fn hmac_sha256(key: &[u8], text: &[u8]) -> Digest
     ensures { result.bytes ≡ hmac_of key.now text.now }
 {

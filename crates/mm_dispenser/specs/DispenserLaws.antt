@@ -8,16 +8,13 @@ use Rattle.std.proofs.lemmas.List.{length-take-le}
 use Rattle.std.proofs.lemmas.List.Folds.{list_all-append}
 use Rattle.hex.specs.Hex.{encode_lower, lower_digits}
 use Rattle.hex.proofs.HexLemmas.{length-encode_with}
-use Rattle.mm_bytes.specs.Fields.{eight_bytes}
-use Rattle.mm_bytes.specs.Limits.{last_position}
-use Rattle.mm_module.specs.Bytes.{is_byte, are_bytes}
-use Rattle.mm_module.specs.LineLaws.{is_unbroken, and-true, and-both, IsText, is_unbroken-decimal, length-decimal}
-use Rattle.mm_module.specs.Meaning.{IsLawful}
-use Rattle.mm_module.specs.PartLaws.{take-front, drop-front, are_bytes-take, are_bytes-append, length-eight, are_bytes-eight}
-use Rattle.mm_module.specs.PartLaws.{number_of_eight_bytes-eight}
-use Rattle.mm_module.specs.TableLaws.{Table, IsTable, IsOutcome, table_by, table_is_lawful}
-use Rattle.mm_module.specs.ValueLaws.{IsValue, value_at-value, is_unbroken-encoded}
-use Rattle.mm_module.specs.Words.{words_of}
+use Rattle.mm_bytes.specs.Limits.{eight_bytes, last_position}
+use Rattle.mm_module.specs.Batch.{is_byte, are_bytes}
+use Rattle.mm_module.specs.LineLaws.{is_unbroken, and-true, and-both, IsText, is_unbroken-decimal, length-decimal, take-front, drop-front}
+use Rattle.mm_module.specs.LineLaws.{are_bytes-take, are_bytes-append, length-eight, are_bytes-eight, number_of_eight_bytes-eight, IsValue}
+use Rattle.mm_module.specs.LineLaws.{value_at-value, is_unbroken-encoded}
+use Rattle.mm_module.specs.Meaning.{IsLawful, words_of}
+use Rattle.mm_module.specs.RunLaws.{Table, IsTable, IsOutcome, table_by, table_is_lawful}
 use Rattle.mm_dispenser.specs.Draws.{word_of, word_text, words_text}
 use Rattle.mm_dispenser.specs.Table.{request_of, outcome_of, text_of, seeded_state_of, state_of, spelling_of, outcome_of_bytes, is_state}
 use Rattle.mm_dispenser.specs.Table.{dispenser}

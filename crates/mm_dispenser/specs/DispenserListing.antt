@@ -1,14 +1,24 @@
--- The dispenser's listing.
-use Rattle.std.specs.Prelude.{ℕ, ◌+◌, ◌/◌, ◌%◌, ◌==◌, codes}
+-- The dispenser's listing. With it: the requests of generated schedules.
+use Rattle.std.specs.Fmt.{decimal}
+use Rattle.std.specs.Prelude.{ℕ, ◌+◌, ◌/◌, ◌%◌, ◌==◌, List, ◌++◌, if◌then◌else◌, codes}
 use Rattle.std.proofs.Common.{refl, arith}
 use Rattle.mm_module.specs.LineLaws.{IsText}
 use Rattle.mm_listing.specs.Listing.{Listing, listing_of, IsListing}
 use Rattle.mm_listing.specs.RequestLaws.{counted, in_both, listed}
 use Rattle.mm_dispenser.specs.DispenserLaws.{dispenser_is_lawful}
+use Rattle.mm_dispenser.specs.PlaceLaws.{keeps-apart}
 use Rattle.mm_dispenser.specs.Promise.{KeepsPlacesApart}
-use Rattle.mm_dispenser.specs.PromiseLaws.{keeps-apart}
-use Rattle.mm_dispenser.specs.Requests.{dispenser_request}
 use Rattle.mm_dispenser.specs.Table.{dispenser}
+
+-- The requests of generated schedules.
+
+abbrev pub dispenser_request : ℕ → List ℕ
+dispenser_request choice =
+    if choice % 4 == 0
+    then codes "seed 0000000000000000000000000000000000000000000000000000000000000000"
+    else codes "draw " ++ decimal (choice / 4 % 16 + 1)
+
+-- The dispenser's listing.
 
 abbrev pub dispenser_listing : Listing
 dispenser_listing =

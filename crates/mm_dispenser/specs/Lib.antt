@@ -1,9 +1,6 @@
 pub mod Draws
 pub mod Table
 pub mod DispenserLaws
-pub mod Places
-pub mod PlaceLaws
 pub mod Promise
-pub mod PromiseLaws
-pub mod Requests
+pub mod PlaceLaws
 pub mod DispenserListing

@@ -1,29 +1,29 @@
 -- No place is told by two draws: the place never falls, and a draw tells those from the place
--- before it to the one after.
-use Rattle.std.proofs.Common.{◌≡◌, ℕ, zero, suc, ◌+◌, ◌<◌, ◌≤◌, ◌^◌, Bool, true, false, not, List, [], ◌∷◌, ◌++◌, length, Option, Some}
-use Rattle.std.proofs.Common.{None, refl, sym, ◌∙◌, ap, subst, arith, append-nil}
-use Rattle.std.specs.Prelude.{All}
+-- before it to the one after. With it: runs of a dispenser keep its promise.
 use Rattle.std.specs.Fmt.{decimal}
-use Rattle.std.specs.List.{list_all}
+use Rattle.std.specs.List.{list_all, AllByRecursion}
+use Rattle.std.specs.Prelude.{All, ◌⊎◌, option_and_then}
+use Rattle.std.proofs.Common.{◌≡◌, ℕ, zero, suc, ◌+◌, ◌<◌, ◌≤◌, ◌^◌, Bool, true, false, not, List, [], ◌∷◌, ◌++◌, length, Option, Some}
+use Rattle.std.proofs.Common.{None, refl, sym, ◌∙◌, ap, subst, arith, append-nil, inl, inr}
 use Rattle.std.proofs.lemmas.Bool.Decides.{nat_tests}
 use Rattle.std.proofs.lemmas.List.Splits.{slice_split_none, slice_split_at}
-use Rattle.mm_bytes.specs.Decimals.{decimal_number}
 use Rattle.mm_bytes.specs.DecimalLaws.{read_by_spelling}
-use Rattle.mm_module.specs.LineLaws.{passes-decimal, list_all-get_or}
-use Rattle.mm_module.specs.TableLaws.{outputs_by, table_outputs}
-use Rattle.mm_module.specs.ValueLaws.{passes-encoded}
-use Rattle.mm_module.specs.Words.{words_of}
-use Rattle.mm_module.specs.WordsWords.{is_space}
-use Rattle.mm_dispenser.specs.Draws.{word_of, word_text, words_text, text_of_draw}
-use Rattle.mm_dispenser.specs.Table.{request_of, outcome_of, text_of}
-use Rattle.mm_dispenser.specs.DispenserLaws.{IsDispenserState, SaysWords, outcome_of-IsOutcome, digits_at, dispenser_table}
-use Rattle.mm_dispenser.specs.DispenserLaws.{dispenser_is_table}
-use Rattle.mm_dispenser.specs.Places.{PlaceRange, told_places, places_at, PlacesRise, PlacesAreToldOnce}
-use Rattle.mm_dispenser.specs.declared.dispenser.State.{State}
-use Rattle.mm_dispenser.specs.declared.dispenser.State.TheVariants.{Unset, Seeded}
-use Rattle.mm_dispenser.specs.declared.dispenser.Request.{Request}
+use Rattle.mm_bytes.specs.Limits.{decimal_number}
+use Rattle.mm_module.specs.LineLaws.{passes-decimal, list_all-get_or, passes-encoded}
+use Rattle.mm_module.specs.Meaning.{words_of, is_space, outputs_from}
+use Rattle.mm_module.specs.RunLaws.{outputs_by, table_outputs}
+use Rattle.mm_listing.specs.Listing.{AreSaid, Telling, WasSaid}
+use Rattle.mm_listing.specs.RequestLaws.{at-place, one-telling}
 use Rattle.mm_dispenser.specs.declared.dispenser.Output.{Output}
 use Rattle.mm_dispenser.specs.declared.dispenser.Output.TheVariants as says
+use Rattle.mm_dispenser.specs.declared.dispenser.Request.{Request}
+use Rattle.mm_dispenser.specs.declared.dispenser.State.{State}
+use Rattle.mm_dispenser.specs.declared.dispenser.State.TheVariants.{Unset, Seeded}
+use Rattle.mm_dispenser.specs.DispenserLaws.{IsDispenserState, SaysWords, outcome_of-IsOutcome, digits_at, dispenser_table}
+use Rattle.mm_dispenser.specs.DispenserLaws.{dispenser_is_table}
+use Rattle.mm_dispenser.specs.Draws.{word_of, word_text, words_text, text_of_draw}
+use Rattle.mm_dispenser.specs.Promise.{PlaceRange, told_places, places_at, PlacesRise, PlacesAreToldOnce, KeepsPlacesApart, TellsPlacesOnce}
+use Rattle.mm_dispenser.specs.Table.{request_of, outcome_of, text_of, dispenser}
 
 -- no space in it, as a test
 abbrev is_whole : List ℕ → Bool
@@ -155,3 +155,37 @@ pub places-once : PlacesAreToldOnce
 places-once requests =
     subst PlacesRise (sym (table_outputs dispenser_is_table Unset requests tt))
     (λ i j p q before one two. rises-by i j Unset requests tt p q before one two)
+
+-- Runs of a dispenser keep its promise.
+
+places-are : (outputs : List (List ℕ)) (telling : Telling) (p : PlaceRange) → WasSaid outputs telling → told_places telling.output ≡ Some p
+    → places_at outputs telling.before ≡ Some p
+places-are outputs telling p said is = ap (λ (o : Option (List ℕ)). option_and_then told_places o) said ∙ is
+
+by_order : (a b : ℕ) → (a ≡ b) ⊎ ((a < b) ⊎ (b < a))
+by_order a b = grind arith
+
+places-apart : (outputs : List (List ℕ)) → PlacesRise outputs → (tellings : List Telling)
+    → AllByRecursion (WasSaid outputs) tellings → TellsPlacesOnce tellings
+places-apart outputs rises tellings said i j a b p q at_a at_b pp qq =
+    let one = at-place (WasSaid outputs) tellings i a said at_a in
+    let two = at-place (WasSaid outputs) tellings j b said at_b in
+    let first = places-are outputs a p one pp in
+    let second = places-are outputs b q two qq in
+    elim (by_order a.before b.before) [
+      | inl same ↦ inl (one-telling outputs a b one two same)
+      | inr other ↦ inr (elim other [
+        | inl before ↦ inl (rises a.before b.before p q before first second)
+        | inr behind ↦ inr (rises b.before a.before q p behind second first)
+      ])
+    ]
+
+-- every run keeps the promise
+pub keeps-apart : (requests : List (List ℕ)) (tellings : List Telling)
+    → AreSaid dispenser requests tellings → KeepsPlacesApart requests tellings
+keeps-apart requests tellings said = record {
+  places = places-once requests;
+  told =
+      places-apart (outputs_from dispenser dispenser.first requests) (places-once requests) tellings
+      said;
+}

@@ -1,9 +1,46 @@
--- What a dispenser promises of a whole run, and of the lines that tell of it.
-use Rattle.std.specs.Prelude.{◌≡◌, ℕ, ◌+◌, ◌≤◌, ◌⊎◌, List, Some, slice_get}
-use Rattle.mm_module.specs.Meaning.{outputs_from}
-use Rattle.mm_listing.specs.Tellings.{Telling}
-use Rattle.mm_dispenser.specs.Places.{PlaceRange, told_places, PlacesRise}
+-- What a dispenser promises of a whole run, and of the lines that tell of it. With it: what a
+-- dispenser promises of a whole run.
+use Rattle.std.specs.Prelude.{◌≡◌, ℕ, ◌+◌, ◌<◌, ◌≤◌, List, [], ◌∷◌, length, slice_get, Option, Some, None, option_map, option_and_then, ◌⊎◌}
+use Rattle.mm_bytes.specs.Limits.{decimal_number}
+use Rattle.mm_module.specs.Meaning.{outputs_from, words_of}
+use Rattle.mm_listing.specs.Listing.{Telling}
 use Rattle.mm_dispenser.specs.Table.{dispenser}
+
+-- What a dispenser promises of a whole run: no place is told by two draws.
+
+-- so many places from one on
+pub record PlaceRange : Type 0 where
+  pub from : ℕ
+  pub size : ℕ
+
+-- a number, and so many words behind it
+abbrev pub places_in : List (List ℕ) → Option PlaceRange
+places_in [] = None
+places_in (word ∷ words) =
+    option_map (λ (n : ℕ). record { from = n; size = length words }) (decimal_number word)
+
+-- The places that an output tells: those from the number on that it begins with, as many as there
+-- are words behind. An output that begins with no number tells none.
+abbrev pub told_places : List ℕ → Option PlaceRange
+told_places output = places_in (words_of output)
+
+-- the places that the output behind so many tells
+abbrev pub places_at : List (List ℕ) → ℕ → Option PlaceRange
+places_at outputs i = option_and_then told_places (slice_get outputs i)
+
+-- Of two outputs that tell places, the later one's begin at or behind the end of the earlier one's.
+abbrev pub PlacesRise : List (List ℕ) → Type 0
+PlacesRise outputs =
+    (i j : ℕ) (p q : PlaceRange) → i < j → places_at outputs i ≡ Some p
+    → places_at outputs j ≡ Some q
+    → p.from + p.size ≤ q.from
+
+-- so it is in every run
+abbrev pub PlacesAreToldOnce : Type 0
+PlacesAreToldOnce =
+    (requests : List (List ℕ)) → PlacesRise (outputs_from dispenser dispenser.first requests)
+
+-- What a dispenser promises of a whole run, and of the lines that tell of it.
 
 -- two lines tell one request of the run, or no place in common
 abbrev pub TellsPlacesOnce : List Telling → Type 0

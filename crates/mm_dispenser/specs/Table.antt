@@ -2,14 +2,9 @@
 use Rattle.std.specs.Prelude.{ℕ, ◌+◌, ◌≤◌, ◌==◌, ◌&&◌, Bool, nat_le, List, [], ◌∷◌, ◌++◌, length, take, drop, codes, Option, Some, None}
 use Rattle.std.specs.Prelude.{is_some, unwrap_or, option_map, option_and_then, if◌then◌else◌}
 use Rattle.std.specs.Str.{bytes_eq}
-use Rattle.mm_bytes.specs.Decimals.{decimal_number}
-use Rattle.mm_bytes.specs.Fields.{eight_bytes}
-use Rattle.mm_bytes.specs.Limits.{last_position}
-use Rattle.mm_module.specs.Bytes.{are_bytes}
-use Rattle.mm_module.specs.Meaning.{Meaning}
-use Rattle.mm_module.specs.Numbers.{number_of_eight_bytes}
-use Rattle.mm_module.specs.Values.{value_at}
-use Rattle.mm_module.specs.Words.{words_of}
+use Rattle.mm_bytes.specs.Limits.{decimal_number, eight_bytes, last_position}
+use Rattle.mm_module.specs.Batch.{are_bytes, number_of_eight_bytes}
+use Rattle.mm_module.specs.Meaning.{Meaning, value_at, words_of}
 use Rattle.mm_dispenser.specs.Draws.{text_of_draw}
 use Rattle.mm_dispenser.specs.declared.dispenser.State.{State}
 use Rattle.mm_dispenser.specs.declared.dispenser.State.TheVariants.{Unset, Seeded}

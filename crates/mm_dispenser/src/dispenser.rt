@@ -1,7 +1,7 @@
 //! The dispenser as a module.
 
 ghost use Rattle.std.specs.Prelude.{◌≡◌, ◌+◌, ◌≤◌, None, if◌then◌else◌, IfOk, IsTrue, length};
-ghost use Rattle.mm_module.specs.Words.{words_of};
+ghost use Rattle.mm_module.specs.Meaning.{words_of};
 ghost use Rattle.mm_dispenser.specs.Table.{IsDrawn, draw_of, request_of, state_at_place, seeded_state_of, state_of, outcome_of, outcome_of_draw, text_of, spelling_of, dispenser};
 ghost use Rattle.mm_dispenser.specs.DispenserLaws.{dispenser_is_lawful};
 

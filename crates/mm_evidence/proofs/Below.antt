@@ -21,26 +21,23 @@ pub use Rattle.mm_seal.specs.Parts.{parts_of}
 pub use Rattle.mm_seal.specs.Snapshot.{Content}
 pub use Rattle.mm_module.specs.Batch.{Batch}
 pub use Rattle.mm_module.specs.Meaning.{IsLawful, Meaning}
-pub use Rattle.mm_model.specs.Chains.{guard}
+pub use Rattle.mm_model.specs.Chains.{guard, Instance}
 pub use Rattle.mm_model.specs.History.{first_history, History, total_of}
-pub use Rattle.mm_model.specs.Instance.{Instance}
 pub use Rattle.mm_model.specs.Messages.{AreNoGuards, IsClear}
-pub use Rattle.mm_model.specs.Places.{NamesPosition}
-pub use Rattle.mm_model.specs.Standing.{IsGenuine, IsRight}
-pub use Rattle.mm_call.specs.CallFinding.{right_content}
-pub use Rattle.mm_call.specs.Levels.{list_level}
+pub use Rattle.mm_model.specs.Standing.{NamesPosition, IsGenuine, IsRight}
+pub use Rattle.mm_call.specs.CallFinding.{right_content, list_level}
 pub use Rattle.mm_call.specs.OfferLaws.{one_content, right_of}
 pub use Rattle.mm_call.specs.Standing.{instance_by}
 pub use Rattle.mm_schedule.specs.Events.{Ask, Checkpoint, Event, Extend, Power}
 pub use Rattle.mm_schedule.specs.declared.event.Offer.{Offer}
 pub use Rattle.mm_schedule.specs.declared.event.Offer.TheVariants.{Flip, Last, Number, Raw}
 pub use Rattle.mm_history.specs.Naming.{BasicNamesAreDecided, is_named, IsDecided, OptNamesAreDecided}
-pub use Rattle.mm_outcome.specs.Folds.{event_outcome, outcome_by_lists, first_snapshots, outcome_of_events, RunOutcome}
+pub use Rattle.mm_outcome.specs.Premises.{event_outcome, outcome_by_lists, first_snapshots, outcome_of_events, RunOutcome, AreApartIn}
+pub use Rattle.mm_outcome.specs.Premises.{AreGenuine, asked_batches, foreign_values, IsClearRun, IsGenuineEvent, IsGenuineOffer}
+pub use Rattle.mm_outcome.specs.Premises.{IsGenuineRun, run_messages}
 pub use Rattle.mm_outcome.specs.Laws.{IsIssued, IssuedNamePositions}
 pub use Rattle.mm_outcome.specs.EventOffers.{offered_bytes}
 pub use Rattle.mm_outcome.specs.OneRun.{FrontsAreOneRun}
-pub use Rattle.mm_outcome.specs.Premises.{AreApartIn, AreGenuine, asked_batches, foreign_values, IsClearRun, IsGenuineEvent}
-pub use Rattle.mm_outcome.specs.Premises.{IsGenuineOffer, IsGenuineRun, run_messages}
 pub use Rattle.mm_evidence.specs.Evidence.{clash, collision, forgery, guarded, HasClash, HasEvidence, IsForged, zero_digest}
 pub use Rattle.mm_evidence.specs.Laws.{ForgedAreNew, FrontsAreLongest, IsDecidedRun, IsMadeUp, IsOneRunOrEvidence, IsFrontWithoutEvidence}
 pub use Rattle.mm_evidence.specs.Laws.{IsLongest, RunsUntil, StopsAt, RepliesAreOneRun}

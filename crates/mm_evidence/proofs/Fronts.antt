@@ -1,8 +1,69 @@
+-- The events before the first one that gives evidence. With it: a forged offer is none of the
+-- snapshots that the run issued; two first parts of one list.
+use Rattle.std.proofs.Common.{◌⊎◌, ◌++◌, ◌∷◌, [], inl, inr, refl, sym}
+use Rattle.mm_outcome.proofs.Above.{issued_names}
+use Rattle.mm_evidence.proofs.Below.{◌≡◌, ◌≤◌, List, ℕ, Some, subst, length, last_position, AllByRecursion, Contains, All-contains}
+use Rattle.mm_evidence.proofs.Below.{All-from_recursion, Contains-get_or, slice_get, get_or_from_slice_get, slice_get_within, IsLawful}
+use Rattle.mm_evidence.proofs.Below.{History, total_of, Instance, Event, Offer, Flip, Last, Number, Raw, ◌-◌, outcome_by_lists, IsIssued}
+use Rattle.mm_evidence.proofs.Below.{IssuedNamePositions, offered_bytes, IsForged, ForgedAreNew, IsMadeUp, ◌∙◌, ap, append_assoc}
+use Rattle.mm_evidence.proofs.Below.{append-nil, IsClearRun, IsGenuineRun, HasEvidence, IsFrontWithoutEvidence, RunsUntil, StopsAt}
+use Rattle.mm_evidence.proofs.Below.{IsLongest, FrontsAreLongest, IsDecidedRun, FrontsAreOneRun, RepliesAreOneRun, IsOneRunOrEvidence}
+
+-- A forged offer is none of the snapshots that the run issued.
+
+module _ (i : Instance) (y : History) (lawful : IsLawful i.meaning) (few : total_of y.batches ≤ last_position) where
+  module _ (issued : List (List ℕ)) (all : AllByRecursion (IsIssued i y) issued) where
+    unissued : (offered : List ℕ) → IsForged i y (Some offered) → Contains issued offered → ⊥
+    unissued offered f listed =
+        let same : offered ≡ f.bytes = (let e = f.offers in cc) in
+        let s = All-contains (IsIssued i y) issued offered (All-from_recursion (IsIssued i y) issued all) listed in
+        f.unnamed (issued_names i y lawful few f.bytes f.content (subst (IsIssued i y) same s) f.right)
+
+    -- an issued snapshot with its number isn't forged
+    numbered : (number : ℕ) → IsForged i y (slice_get issued number) → ⊥
+    numbered number f =
+        unissued f.bytes (subst (IsForged i y) f.offers f)
+        (subst (Contains issued) (get_or_from_slice_get issued number f.bytes f.bytes f.offers)
+        (Contains-get_or issued number f.bytes (slice_get_within issued number f.bytes f.offers)))
+
+    made_up : (offer : Offer) → IsForged i y (offered_bytes issued offer) → IsMadeUp offer
+    made_up (Number number) f = numbered number f
+    made_up Last f = numbered (length issued - 1) f
+    made_up (Flip number byte) f = tt
+    made_up (Raw bytes) f = tt
+
+pub forged_new : (i : Instance) → IssuedNamePositions i → (events : List Event) → IsLawful i.meaning
+    → total_of (outcome_by_lists i events).state.batches ≤ last_position → ForgedAreNew i events
+forged_new i named events lawful few =
+    let it = outcome_by_lists i events in
+    record {
+      unissued = unissued i it.state lawful few it.issued (named events);
+      made_up = made_up i it.state lawful few it.issued (named events);
+    }
+
+-- Two first parts of one list.
+
+-- One list goes on behind another: so does what is behind that one, with what is behind the longer one last.
+pub record IsLonger {A : Type 0} (front longer behind last : List A) : Type 0 where
+  pub next : A
+  pub more : List A
+  pub is : longer ≡ front ++ next ∷ more
+  pub rest : behind ≡ next ∷ (more ++ last)
+
+pub fronts_cases : {A : Type 0} (f g r s : List A) → f ++ r ≡ g ++ s → (f ≡ g) ⊎ (IsLonger f g r s ⊎ IsLonger g f s r)
+fronts_cases [] [] r s e = inl refl
+fronts_cases [] (y ∷ g) r s e = inr (inl (record { next = y; more = g; is = refl; rest = e }))
+fronts_cases (x ∷ f) [] r s e = inr (inr (record { next = x; more = f; is = refl; rest = sym e }))
+fronts_cases (x ∷ f) (y ∷ g) r s e =
+    let same : x ≡ y = cc in
+    let rest : f ++ r ≡ g ++ s = cc in
+    elim (fronts_cases f g r s rest) [
+      | inl is ↦ inl (λ j. same j ∷ is j)
+      | inr (inl l) ↦ inr (inl (record { next = l.next; more = l.more; is = λ j. sym same j ∷ l.is j; rest = l.rest }))
+      | inr (inr l) ↦ inr (inr (record { next = l.next; more = l.more; is = λ j. same j ∷ l.is j; rest = l.rest }))
+    ]
+
 -- The events before the first one that gives evidence: what holds of each first part that meets the premises holds of each of theirs.
-use Rattle.mm_evidence.proofs.Below.{◌≡◌, ◌∙◌, ◌⊎◌, ◌++◌, ◌∷◌, ap, List, [], inl, inr, refl, sym, subst, append_assoc, append-nil, Instance}
-use Rattle.mm_evidence.proofs.Below.{Event, IsClearRun, IsGenuineRun, HasEvidence, IsFrontWithoutEvidence, RunsUntil, StopsAt, IsLongest}
-use Rattle.mm_evidence.proofs.Below.{FrontsAreLongest, IsDecidedRun, FrontsAreOneRun, RepliesAreOneRun, IsOneRunOrEvidence}
-use Rattle.mm_evidence.proofs.FrontCases.{fronts_cases}
 
 -- a list is empty, or has a last event
 last_or : {E : Type 0} (es : List E) → (es ≡ []) ⊎ ((init : List E) × (last : E) × (es ≡ init ++ last ∷ []))

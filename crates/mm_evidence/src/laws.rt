@@ -8,7 +8,7 @@ ghost use Rattle.mm_module.specs.Meaning.{IsLawful, Meaning};
 ghost use Rattle.mm_model.specs.History.{total_of};
 ghost use Rattle.mm_call.specs.Standing.{instance_by};
 ghost use Rattle.mm_schedule.specs.Events.{Event};
-ghost use Rattle.mm_outcome.specs.Folds.{outcome_by_lists};
+ghost use Rattle.mm_outcome.specs.Premises.{outcome_by_lists};
 ghost use Rattle.mm_evidence.specs.Laws.{IsDecidedRun, IsOneRunOrEvidence, FrontsAreLongest, ForgedAreNew};
 
 use mm_history::names_are_decided;

@@ -11,13 +11,13 @@ use Rattle.mm_expect.proofs.Below.{finished_walk, commits-none, writing_commits,
 use Rattle.mm_expect.proofs.Below.{ChronicleView, ChronicleGoes, chronicle_instance, instance_with, ChronicleWalks, repeat_in, AdmitsBatch}
 use Rattle.mm_expect.proofs.Below.{changing_steps, first_changing_step, changes_on, ChronicleChanges, ending_of, new_ending, NewCallGoesOn}
 use Rattle.mm_expect.proofs.Below.{ChronicleCalls, Content}
-use Rattle.mm_expect.specs.RightOffer.{right_offer}
-use Rattle.mm_module.specs.BatchLaws.{size_of-pos}
+use Rattle.mm_expect.specs.ExpectedState.{right_offer}
+use Rattle.mm_module.specs.RunLaws.{size_of-pos}
 use Rattle.mm_call.specs.WalkLaws as walks
 use Rattle.mm_call.specs.WalkLaws.{foreign_made, history_with_values}
 use Rattle.std.proofs.lemmas.Bool.Decides.{nat_tests}
 use Rattle.std.specs.Prelude.{length}
-use Rattle.mm_expect.proofs.Walking.{broken_walked, then_walked, walks_then}
+use Rattle.mm_expect.proofs.Settling.{broken_walked, then_walked, walks_then}
 
 -- what the steps of a new batch commit
 

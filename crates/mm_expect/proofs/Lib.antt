@@ -1,12 +1,5 @@
-mod CopyLaws
+mod CallLaws
 mod Below
 mod Settling
-mod Walking
-mod FindLaws
-mod Asking
-mod GenuineLaws
-mod CheckLaws
-mod AfterLaws
 mod EventLaws
-mod JudgeLaws
-mod CallLaws
+mod Asking

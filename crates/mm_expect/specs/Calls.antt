@@ -4,8 +4,7 @@ use Rattle.mm_expect.specs.Below.{last_position, Variant, Basic, Opt, StepFault,
 use Rattle.mm_expect.specs.Below.{Placed, Reset, total_of, is_last, DeviceStep, Changes, Writes, Refusal, answer_on, CallEnding, Answers}
 use Rattle.mm_expect.specs.Below.{Refuses, Breaks, CallOutcome, position_if_committed, StepsWalk, fate_by_plan, walk, has_commit}
 use Rattle.mm_expect.specs.Below.{CallFinding, AskResult, Answered, Refused, Broken, plan_of}
-use Rattle.mm_expect.specs.ChronicleView.{ChronicleView, ChronicleGoes, chronicle_instance}
-use Rattle.mm_expect.specs.ChronicleSteps.{ChronicleWalks}
+use Rattle.mm_expect.specs.ChronicleView.{ChronicleView, ChronicleGoes, chronicle_instance, ChronicleWalks}
 
 -- a refusal, or whether the batch is a repeat
 abbrev pub repeat_in : Result CallFinding Refusal → Result Bool Refusal

@@ -1,13 +1,4 @@
 pub mod Below
-pub mod NumberedMessages
-pub mod ChronicleView
-pub mod SettledChronicle
-pub mod ChronicleSteps
-pub mod RightOffer
-pub mod Calls
-pub mod Closings
-pub mod GenuineOffers
-pub mod ChronicleEvents
 pub mod ExpectedState
-pub mod HeardEvent
-pub mod OfferDecision
+pub mod ChronicleView
+pub mod Calls

@@ -40,12 +40,11 @@ impl Chronicle {
     ghost use Rattle.mm_module.specs.Batches.{batch_of};
     ghost use Rattle.mm_model.specs.History.{total_of};
     ghost use Rattle.mm_model.specs.Verdicts.{is_last};
-    ghost use Rattle.mm_model.specs.Long.{is_long};
-    ghost use Rattle.mm_model.specs.Places.{issued_place};
-    ghost use Rattle.mm_model.specs.Standing.{issued_bytes};
-    ghost use Rattle.mm_call.specs.Answers.{answer_on};
+    ghost use Rattle.mm_model.specs.Moves.{is_long};
+    ghost use Rattle.mm_model.specs.Standing.{issued_place, issued_bytes};
+    ghost use Rattle.mm_call.specs.CallFinding.{answer_on};
     ghost use Rattle.mm_call.specs.declared.ended.AskResult.TheVariants.{Answered};
-    ghost use Rattle.mm_outcome.specs.WorldState.{world_key};
+    ghost use Rattle.mm_outcome.specs.OneRun.{world_key};
     ghost use Rattle.mm_expect.specs.ChronicleView.{chronicle_instance};
 
     // Where the snapshot of an answer stands.

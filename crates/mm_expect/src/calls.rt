@@ -17,20 +17,17 @@ impl Chronicle {
     ghost use Rattle.std.specs.Prelude.{◌≡◌, ◌≤◌, ℕ, List, [], ◌∷◌, true, false, IfOk};
     ghost use Rattle.mm_bytes.specs.Limits.{last_position};
     ghost use Rattle.mm_digest.specs.declared.variant.Variant.TheVariants.{Opt};
-    ghost use Rattle.mm_model.specs.Steps.{Reads};
+    ghost use Rattle.mm_model.specs.History.{Reads};
     ghost use Rattle.mm_module.specs.Batches.{batch_of};
-    ghost use Rattle.mm_model.specs.Long.{is_long};
-    ghost use Rattle.mm_call.specs.CallOutcome.{call_outcome, reading_steps};
-    ghost use Rattle.mm_call.specs.Courses.{fate_by_plan, walk};
+    ghost use Rattle.mm_model.specs.Moves.{is_long};
+    ghost use Rattle.mm_call.specs.CallOutcome.{call_outcome, reading_steps, fate_by_plan, walk};
     ghost use Rattle.mm_call.specs.Checkpoints.{checkpoint_outcome};
-    ghost use Rattle.mm_call.specs.Levels.{list_level};
-    ghost use Rattle.mm_outcome.specs.Folds.{course_of, plan_of};
-    ghost use Rattle.mm_outcome.specs.WorldState.{world_key};
-    ghost use Rattle.mm_expect.specs.ChronicleView.{chronicle_instance};
-    ghost use Rattle.mm_expect.specs.ChronicleSteps.{ChronicleWalks};
-    ghost use Rattle.mm_expect.specs.RightOffer.{told_offer, right_offer};
+    ghost use Rattle.mm_call.specs.CallFinding.{list_level};
+    ghost use Rattle.mm_outcome.specs.Premises.{course_of, plan_of};
+    ghost use Rattle.mm_outcome.specs.OneRun.{world_key};
+    ghost use Rattle.mm_expect.specs.ChronicleView.{chronicle_instance, ChronicleWalks, ChronicleGoesByCheckpoint, ChronicleClosesBy};
+    ghost use Rattle.mm_expect.specs.ExpectedState.{told_offer, right_offer};
     ghost use Rattle.mm_expect.specs.Calls.{AdmitsBatch, ChronicleCalls, NewCallGoesOn, ChronicleChanges};
-    ghost use Rattle.mm_expect.specs.Closings.{ChronicleGoesByCheckpoint, ChronicleClosesBy};
 
     // The steps of a call up to its last reading step.
     fn read(&mut self, course: &CallPlan<'_>) -> Result<Option<StepFault>, Memory>
@@ -224,7 +221,7 @@ pub(crate) enum ClosingResult {
 
 impl ClosingResult {
     ghost use Rattle.std.specs.Prelude.{◌≡◌};
-    ghost use Rattle.mm_expect.specs.Closings.{is_broken_off};
+    ghost use Rattle.mm_expect.specs.ChronicleView.{is_broken_off};
 
     /// Whether a device's fault broke the checkpoint off.
     pub(crate) fn stops(&self) -> bool

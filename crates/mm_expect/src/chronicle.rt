@@ -37,8 +37,7 @@ pub(crate) struct Chronicle {
 }
 
 impl Model for Chronicle {
-    ghost use Rattle.mm_expect.specs.ChronicleView.{ChronicleView};
-    ghost use Rattle.mm_expect.specs.SettledChronicle.{IsKept};
+    ghost use Rattle.mm_expect.specs.ChronicleView.{ChronicleView, IsKept};
 
     ghost Value = { ChronicleView };
 
@@ -61,9 +60,9 @@ impl Chronicle {
     ghost use Rattle.mm_module.specs.Batches.{batch_of};
     ghost use Rattle.mm_modules.specs.Modules.{meaning_of};
     ghost use Rattle.mm_model.specs.Chains.{guard};
-    ghost use Rattle.mm_model.specs.Long.{is_long};
-    ghost use Rattle.mm_model.specs.History.{Move, Commit, Foreign, Placed, Reset, Close, Power, history_after_commit, register_value_of, total_of};
-    ghost use Rattle.mm_model.specs.HistoryWords.{cell_digest_of};
+    ghost use Rattle.mm_model.specs.Moves.{is_long};
+    ghost use Rattle.mm_model.specs.History.{Move, Commit, Foreign, Placed, Reset, Close, Power, history_after_commit, register_value_of};
+    ghost use Rattle.mm_model.specs.History.{total_of, cell_digest_of};
     ghost use Rattle.mm_expect.specs.ChronicleView.{first_chronicle, ChronicleGoes, chronicle_instance, extension_messages, segment_closing_messages, state_after_batch, outputs_of_batch};
 
     /// The first history of a variant and a module.

@@ -1,7 +1,7 @@
 //! The course that a schedule plans for a call.
 
 ghost use Rattle.std.specs.Prelude.{◌≡◌};
-ghost use Rattle.mm_platform.specs.Steps.{fault_at, is_made_at};
+ghost use Rattle.mm_platform.specs.Standing.{fault_at, is_made_at};
 
 use crate::chronicle::Chronicle;
 use mm_bytes::Memory;
@@ -50,12 +50,11 @@ pub(crate) fn is_made_at(stop: Stop, step: u8) -> bool
 impl Chronicle {
     ghost use Rattle.std.specs.Prelude.{◌≡◌, ◌+◌, ◌<◌, [], ◌∷◌, map, false, length, IfOk, OnOk};
     ghost use Rattle.mm_model.specs.History.{Foreign};
-    ghost use Rattle.mm_platform.specs.StandingWords.{due_values};
-    ghost use Rattle.mm_call.specs.Courses.{fate_by_plan, walk, step_moves};
-    ghost use Rattle.mm_call.specs.CoursesWords.{made_move};
-    ghost use Rattle.mm_outcome.specs.Folds.{plan_of};
-    ghost use Rattle.mm_expect.specs.ChronicleView.{ChronicleGoes};
-    ghost use Rattle.mm_expect.specs.ChronicleSteps.{move_of, model_step_of, steps_of, IsShortMove, IsShortStep, AreShort, ChronicleWalks};
+    ghost use Rattle.mm_platform.specs.Standing.{due_values};
+    ghost use Rattle.mm_call.specs.CallOutcome.{fate_by_plan, walk, step_moves, made_move};
+    ghost use Rattle.mm_outcome.specs.Premises.{plan_of};
+    ghost use Rattle.mm_expect.specs.ChronicleView.{ChronicleGoes, move_of, model_step_of, steps_of, IsShortMove, IsShortStep, AreShort};
+    ghost use Rattle.mm_expect.specs.ChronicleView.{ChronicleWalks};
 
     // A move of the core is made where its step has its effect.
     fn make(&mut self, is_made: bool, action: &ChronicleMove<'_>) -> Result<(), Memory>

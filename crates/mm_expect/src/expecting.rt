@@ -4,16 +4,15 @@ ghost use Rattle.std.specs.Prelude.{◌≡◌, ◌≤◌, ◌++◌, ℕ, List, t
 ghost use Rattle.std.specs.Result.{result_ok};
 ghost use Rattle.mm_bytes.specs.Limits.{last_position};
 ghost use Rattle.mm_module.specs.Batches.{batch_of};
-ghost use Rattle.mm_model.specs.Long.{is_long};
+ghost use Rattle.mm_model.specs.Moves.{is_long};
 ghost use Rattle.mm_call.specs.CallPremises.{right_messages};
-ghost use Rattle.mm_call.specs.EndedCall.{is_broken};
+ghost use Rattle.mm_call.specs.CallKind.{is_broken};
 ghost use Rattle.mm_schedule.specs.Events.{Ask, Checkpoint, Power, Extend, event_of};
-ghost use Rattle.mm_outcome.specs.Folds.{moves_after_stop};
-ghost use Rattle.mm_outcome.specs.WorldState.{world_key};
-ghost use Rattle.mm_expect.specs.ChronicleEvents.{listed_chronicle, ChronicleGoesByCall, ChronicleGoesByEvent, moves_if};
-ghost use Rattle.mm_expect.specs.ChronicleView.{ChronicleGoes, chronicle_instance};
-ghost use Rattle.mm_expect.specs.OfferDecision.{DecidesOffer, DecidesEvent};
-ghost use Rattle.mm_expect.specs.RightOffer.{told_offer, right_offer};
+ghost use Rattle.mm_outcome.specs.Premises.{moves_after_stop};
+ghost use Rattle.mm_outcome.specs.OneRun.{world_key};
+ghost use Rattle.mm_expect.specs.ChronicleView.{listed_chronicle, ChronicleGoesByCall, ChronicleGoesByEvent, moves_if, ChronicleGoes};
+ghost use Rattle.mm_expect.specs.ChronicleView.{chronicle_instance};
+ghost use Rattle.mm_expect.specs.ExpectedState.{DecidesOffer, DecidesEvent, told_offer, right_offer};
 
 use crate::calls::ClosingResult;
 use crate::chronicle::Chronicle;
@@ -55,7 +54,7 @@ pub struct Expectation {
 
 impl Model for Expectation {
     ghost use Rattle.std.specs.Prelude.{◌≡◌};
-    ghost use Rattle.mm_outcome.specs.WorldState.{world_key};
+    ghost use Rattle.mm_outcome.specs.OneRun.{world_key};
     ghost use Rattle.mm_expect.specs.ExpectedState.{ExpectedState};
 
     ghost Value = { ExpectedState };
@@ -321,10 +320,9 @@ impl Expectation {
     ghost use Rattle.mm_expect.specs.ChronicleView.{instance_with};
     ghost use Rattle.mm_schedule.specs.Events.{event_of};
     ghost use Rattle.mm_schedule.specs.Replies.{IsPrintable};
-    ghost use Rattle.mm_outcome.specs.WorldState.{world_of};
-    ghost use Rattle.mm_expect.specs.ExpectedState.{IsAfter, StandsLater, first_expected_state, expected_state_after};
-    ghost use Rattle.mm_expect.specs.HeardEvent.{HearsEvent};
-    ghost use Rattle.mm_expect.specs.OfferDecision.{DecidesLater};
+    ghost use Rattle.mm_outcome.specs.OneRun.{world_of};
+    ghost use Rattle.mm_expect.specs.ExpectedState.{IsAfter, StandsLater, first_expected_state, expected_state_after, HearsEvent};
+    ghost use Rattle.mm_expect.specs.ExpectedState.{DecidesLater};
 
     /// A schedule with this header, before its first event.
     pub fn new(alloc: Global, header: &Header) -> Result<Expectation, Memory>

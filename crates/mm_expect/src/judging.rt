@@ -17,12 +17,11 @@ impl Chronicle {
     ghost use Rattle.mm_module.specs.Batches.{batch_of};
     ghost use Rattle.mm_model.specs.History.{items_of_all, total_of};
     ghost use Rattle.mm_model.specs.Verdicts.{verdict_on};
-    ghost use Rattle.mm_model.specs.Life.{has_value, are_own, life_of, is_lost};
-    ghost use Rattle.mm_model.specs.Long.{is_long};
-    ghost use Rattle.mm_call.specs.CallFinding.{finding_at};
-    ghost use Rattle.mm_call.specs.Levels.{list_level};
+    ghost use Rattle.mm_model.specs.Standing.{has_value, are_own, life_of, is_lost};
+    ghost use Rattle.mm_model.specs.Moves.{is_long};
+    ghost use Rattle.mm_call.specs.CallFinding.{finding_at, list_level};
     ghost use Rattle.mm_expect.specs.ChronicleView.{chronicle_instance};
-    ghost use Rattle.mm_expect.specs.RightOffer.{told_offer, right_offer};
+    ghost use Rattle.mm_expect.specs.ExpectedState.{told_offer, right_offer};
     ghost use Rattle.mm_expect.specs.Calls.{repeat_in, AdmitsBatch};
 
     /// How many requests are committed.
@@ -47,7 +46,7 @@ impl Chronicle {
     }
 
     /// Whether power was lost inside an open segment.
-    #[tactic(auto, using(crate::proofs::FindLaws::lost_when))]
+    #[tactic(auto, using(crate::proofs::EventLaws::lost_when))]
     pub(crate) fn is_lost(&self) -> bool
         ensures { result ≡ is_lost (life_of self.now.variant self.now.history) }
     {

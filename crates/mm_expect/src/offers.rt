@@ -3,12 +3,11 @@
 ghost use Rattle.std.specs.Prelude.{◌≡◌, ◌≤◌, ℕ, List, Some, IfOk};
 ghost use Rattle.mm_bytes.specs.Limits.{last_position};
 ghost use Rattle.mm_model.specs.Standing.{IsGenuine};
-ghost use Rattle.mm_outcome.specs.WorldState.{world_key};
+ghost use Rattle.mm_outcome.specs.OneRun.{world_key};
 ghost use Rattle.mm_history.specs.Naming.{IsDecided};
-ghost use Rattle.mm_expect.specs.GenuineOffers.{EachOfferIsDecided, BasicIssuedAreGenuine, OptIssuedAreGenuine};
+ghost use Rattle.mm_expect.specs.ExpectedState.{EachOfferIsDecided, BasicIssuedAreGenuine, OptIssuedAreGenuine, DecidesOffer, told_offer};
+ghost use Rattle.mm_expect.specs.ExpectedState.{right_offer};
 ghost use Rattle.mm_outcome.specs.EventOffers.{offered_bytes};
-ghost use Rattle.mm_expect.specs.OfferDecision.{DecidesOffer};
-ghost use Rattle.mm_expect.specs.RightOffer.{told_offer, right_offer};
 ghost use Rattle.mm_expect.specs.ChronicleView.{chronicle_instance};
 
 use crate::chronicle::Chronicle;

@@ -3,9 +3,9 @@
 ghost use Rattle.std.specs.Prelude.{◌≡◌, ◌∷◌, [], None, option_to_list};
 ghost use Rattle.mm_call.specs.CallOutcome.{Answers};
 ghost use Rattle.mm_schedule.specs.declared.reply.Way.TheVariants.{Fault};
-ghost use Rattle.mm_outcome.specs.Folds.{reply_of, snapshots_of, closing_reply};
+ghost use Rattle.mm_outcome.specs.Premises.{reply_of, snapshots_of, closing_reply};
 ghost use Rattle.mm_expect.specs.Calls.{ending_of};
-ghost use Rattle.mm_expect.specs.Closings.{ending_of_closing};
+ghost use Rattle.mm_expect.specs.ChronicleView.{ending_of_closing};
 
 use crate::calls::ClosingResult;
 use mm_bytes::Bytes;

@@ -2,12 +2,12 @@
 use Rattle.std.proofs.Common.{◌≡◌, ℕ, List, true, [], refl, arith}
 use Rattle.std.specs.Prelude.{None, Result, Ok, Err, IfErr}
 use Rattle.std.specs.Result.{result_err}
-use Rattle.mm_bytes.specs.Faults.{next_count, CountsFaults}
+use Rattle.mm_bytes.specs.Limits.{next_count, CountsFaults}
 use Rattle.mm_platform.specs.declared.fault.StepFault.{StepFault}
 use Rattle.mm_platform.specs.declared.fault.StepFault.TheVariants as step
-use Rattle.mm_platform.specs.Raw.{WritesRaw}
-use Rattle.mm_platform.specs.Steps.{Act, ReadCell, WriteCell, ReadRegister, ResetRegister, ExtendRegister, DeviceStepEnds, StepGoes}
-use Rattle.mm_platform.specs.Steps.{items_beside, cell_after, items_after, writes_after}
+use Rattle.mm_platform.specs.Memory.{WritesRaw}
+use Rattle.mm_platform.specs.Standing.{Act, ReadCell, WriteCell, ReadRegister, ResetRegister, ExtendRegister, DeviceStepEnds, StepGoes}
+use Rattle.mm_platform.specs.Standing.{items_beside, cell_after, items_after, writes_after}
 use Rattle.mm_files.specs.UntoldDevices.{untold_standing}
 
 abbrev IsFailed : {T : Type 0} → Result T StepFault → Type 0

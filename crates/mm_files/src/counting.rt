@@ -1,7 +1,7 @@
 //! How an error of the file system is counted, and its reason kept.
 
 ghost use Rattle.std.specs.Prelude.{◌≡◌, Ok, Some, IsErr, MatchResult};
-ghost use Rattle.mm_bytes.specs.Faults.{next_count, CountsFaults};
+ghost use Rattle.mm_bytes.specs.Limits.{next_count, CountsFaults};
 
 use crate::reason::Reason;
 use mm_bytes::Failed;

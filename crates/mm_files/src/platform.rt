@@ -1,7 +1,7 @@
 //! A platform over files.
 
 ghost use Rattle.std.specs.Prelude.{◌≡◌, None, Some, IfErr, MatchResult};
-ghost use Rattle.mm_bytes.specs.Faults.{CountsFaults};
+ghost use Rattle.mm_bytes.specs.Limits.{CountsFaults};
 ghost use Rattle.mm_files.specs.UntoldDevices.{none_are, untold_standing};
 
 use crate::cause::in_words;

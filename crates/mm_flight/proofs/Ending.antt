@@ -3,10 +3,9 @@
 use Rattle.mm_flight.proofs.Below.{◌≡◌, ℕ, true, false, Bool, List, [], ◌∷◌, Option, None, Result, Ok, Err, refl, ap, subst, sym, ◌∙◌}
 use Rattle.mm_flight.proofs.Below.{StepFault, Plan, Standing, Act, StepGoes, ReadCell, ReadRegister, Cell}
 use Rattle.mm_machine.specs.Acts.{MayChange, remaining_acts}
-use Rattle.mm_machine.specs.OpMeaning.{OpMeaning}
-use Rattle.mm_machine.specs.OpEnds.{ActLeads, OpActs, FindingEnds, OpEnds, acts_for, answer_in, breaks_off, goes_on, position_before}
-use Rattle.mm_machine.specs.OpReads.{CellSays, StepDraws, SightFinds, RegisterSays, RoomIsMadeIf, RoomIsMadeFor, has_extension}
-use Rattle.mm_machine.specs.OpSteps.{MayGoOn, ending_by_halt}
+use Rattle.mm_machine.specs.OpSteps.{OpMeaning, ActLeads, OpActs, FindingEnds, OpEnds, acts_for, answer_in, breaks_off, goes_on}
+use Rattle.mm_machine.specs.OpSteps.{position_before, CellSays, StepDraws, SightFinds, RegisterSays, RoomIsMadeIf, RoomIsMadeFor}
+use Rattle.mm_machine.specs.OpSteps.{has_extension, MayGoOn, ending_by_halt}
 use Rattle.mm_machine.specs.declared.call.OpResult.{OpResult}
 use Rattle.mm_machine.specs.declared.call.OpResult.TheVariants.{Answered, Broken, Refused}
 use Rattle.mm_machine.specs.declared.call.OpStage.{OpStage}
@@ -19,8 +18,8 @@ use Rattle.mm_machine.specs.declared.operation.Sight.TheVariants as sight
 use Rattle.mm_machine.specs.declared.reading.Halt.{Halt}
 use Rattle.mm_machine.specs.declared.reading.Halt.TheVariants.{Fault, Lacks}
 use Rattle.mm_machine.specs.declared.reading.Halt.TheVariants as halt
-use Rattle.mm_flight.specs.Machine.{is_broken}
-use Rattle.mm_flight.proofs.Replanning.{AlwaysFails}
+use Rattle.mm_flight.specs.Flight.{is_broken}
+use Rattle.mm_flight.proofs.Machine.{AlwaysFails}
 
 -- a call whose next step fails is broken off
 

@@ -1,14 +1,18 @@
--- A call of the machine in flight: its step under another plan, what it goes on to, and a step that fails.
-use Rattle.mm_flight.proofs.Below.{◌≡◌, ℕ, true, Bool, false, List, Option, None, Some, Result, Ok, Err, refl, ap, subst, sym}
-use Rattle.mm_flight.proofs.Below.{◌∙◌, next_count, StepFault, Meddle, Quiet, Plan, Standing, StepGoes, ReadCell, ReadRegister, cell_after}
-use Rattle.mm_flight.proofs.Below.{plan_by, standing_under}
+-- A call of the machine in flight. With it: a device step that goes as its plan says goes so under
+-- each plan that says the same of it; how a call in flight begins, takes in others' values and goes
+-- on, and how it ends.
+use Rattle.std.specs.Prelude.{◌==◌, filter}
+use Rattle.std.proofs.lemmas.Bool.{ne_eqb}
+use Rattle.std.proofs.lemmas.List.{append-nil}
+use Rattle.std.proofs.lemmas.List.Elements.{filter-append}
+use Rattle.mm_digest.specs.declared.digest.Digest.{Digest}
 use Rattle.mm_seal.specs.declared.cell.Cell.{Cell}
+use Rattle.mm_platform.specs.Standing.{due_values}
+use Rattle.mm_platform.specs.declared.fault.StepFault.TheVariants.{Failed, Off}
 use Rattle.mm_machine.specs.Acts.{act_in, remaining_acts, change_after}
-use Rattle.mm_machine.specs.OpMeaning.{OpMeaning}
-use Rattle.mm_machine.specs.OpEnds.{OpActs, OpEnds, breaks_off}
-use Rattle.mm_machine.specs.OpReads.{CellSays, StepDraws, OpLooks, RegisterSays, RoomIsMadeIf, RoomIsMadeFor, OpWeighs, has_extension}
-use Rattle.mm_machine.specs.OpSteps.{SightLeads, OpSteps, act_of, ending_by_halt, position_if_last, step_of_finding, step_after_change}
-use Rattle.mm_machine.specs.OpSteps.{step_to}
+use Rattle.mm_machine.specs.OpSteps.{OpMeaning, OpActs, OpEnds, breaks_off, CellSays, StepDraws, OpLooks, RegisterSays, RoomIsMadeIf}
+use Rattle.mm_machine.specs.OpSteps.{RoomIsMadeFor, OpWeighs, has_extension, SightLeads, OpSteps, act_of, ending_by_halt, position_if_last}
+use Rattle.mm_machine.specs.OpSteps.{step_of_finding, step_after_change, step_to}
 use Rattle.mm_machine.specs.declared.call.OpResult.{OpResult}
 use Rattle.mm_machine.specs.declared.call.OpResult.TheVariants.{Broken}
 use Rattle.mm_machine.specs.declared.call.OpStage.{OpStage}
@@ -25,8 +29,85 @@ use Rattle.mm_machine.specs.declared.operation.Sight.TheVariants as sight
 use Rattle.mm_machine.specs.declared.reading.Halt.{Halt}
 use Rattle.mm_machine.specs.declared.reading.Halt.TheVariants.{Fault, Refused, Lacks}
 use Rattle.mm_machine.proofs.Above.{joins}
-use Rattle.mm_flight.specs.Machine.{fault_of_step}
-use Rattle.mm_flight.proofs.Replanning.{Moves, Replans, quiet_step, replanned}
+use Rattle.mm_call.specs.TellingLaws.{IsAt, then_at, room_at}
+use Rattle.mm_flight.specs.Flight.{fault_of_step}
+use Rattle.mm_flight.proofs.Below.{◌≡◌, ℕ, ◌+◌, ◌<◌, true, Bool, List, Option, None, Some, refl, ap, ◌∙◌, subst, arith, next_count}
+use Rattle.mm_flight.proofs.Below.{StepFault, Meddle, Quiet, Plan, Standing, Act, StepGoes, DeviceStepEnds, StepGoesByPlan, fault_by_plan}
+use Rattle.mm_flight.proofs.Below.{plan_by, standing_under, PlansAgreeAt, false, Result, Ok, Err, sym, ReadCell, ReadRegister, cell_after}
+use Rattle.mm_flight.proofs.Below.{[], ◌∷◌, ◌++◌, option_map, plan_with_meddle, PlanAgreesWith, IsCallInFlight}
+
+-- A device step that goes as its plan says goes so under each plan that says the same of it.
+
+pub counted_few : (made : ℕ) → made < 255 → next_count made ≡ made + 1
+counted_few made few = omega arith
+
+-- A platform under a plan of which so many steps are over, and another plan that says the same of its next step.
+pub record Replans (p q : Plan) (made : ℕ) (now : Standing) : Type 0 where
+  pub is_on : now.is_on ≡ true
+  pub planned : now.plan ≡ Some (record q { at = made })
+  pub same : PlansAgreeAt p q (next_count made)
+
+ends_under : (fault : Option StepFault) (p : Plan) (made : ℕ) (now new : Standing) (is_made : Bool) → DeviceStepEnds fault now new is_made
+    → DeviceStepEnds fault (standing_under p made now) (standing_under p (next_count made) new) is_made
+ends_under None p made now new is_made e = record { made = e.made; was_on = e.was_on; is_on = e.is_on; faults = e.faults }
+ends_under (Some Failed) p made now new is_made e = record { was_on = e.was_on; is_on = e.is_on; faults = e.faults }
+ends_under (Some Off) p made now new is_made e = record { faults = e.faults; still = e.still }
+
+told_under : (p q : Plan) (made : ℕ) (now new : Standing) (is_made : Bool) (others : List (List ℕ)) (fault : Option StepFault)
+    → Replans p q made now
+    → StepGoesByPlan (record q { at = made }) now new is_made others fault
+    → StepGoesByPlan (record p { at = made }) (standing_under p made now) (standing_under p (next_count made) new) is_made others fault
+told_under p q made now new is_made others fault r told =
+    record {
+      answers = simp (told.answers, r.is_on, r.same.answers);
+      makes = simp (told.makes, r.is_on, r.same.makes);
+      power = simp (told.power, r.is_on, r.same.stays);
+      brings = simp (told.brings, r.is_on, r.same.brings);
+      counts = told.counts;
+    }
+
+pub replanned : (act : Act) (p q : Plan) (made : ℕ) (now new : Standing) (fault : Option StepFault) → Replans p q made now
+    → StepGoes act now new fault
+    → StepGoes act (standing_under p made now) (standing_under p (next_count made) new) fault
+replanned act p q made now new fault r g =
+    let told = told_under p q made now new g.is_made g.others fault r (g.told (record q { at = made }) r.planned) in record {
+      is_made = g.is_made;
+      others = g.others;
+      cell = g.cell;
+      items = g.items;
+      steps = g.steps;
+      writes = g.writes;
+      cycles = g.cycles;
+      room = g.room;
+      plan = refl;
+      ends = ends_under fault p made now new g.is_made g.ends;
+      told = λ (plan : Plan) (known : Some (record p { at = made }) ≡ Some plan).
+          let same : record p { at = made } ≡ plan = cc in
+          subst (λ (x : Plan). StepGoesByPlan x (standing_under p made now) (standing_under p (next_count made) new) g.is_made g.others
+          fault) same told;
+    }
+
+-- A device step that didn't fail and wrote no cell, and room that may have been made behind it.
+pub record Moves (old new : Standing) : Type 0 where
+  pub act : Act
+  pub middle : Standing
+  pub goes : StepGoes act old middle None
+  pub room : new ≡ record middle { spare = new.spare }
+  pub keeps : middle.cell ≡ old.cell
+
+-- with nothing planned to go wrong a step answers no fault
+pub quiet_step : (act : Act) (now new : Standing) (fault : Option StepFault) (meddles : List Meddle) (made : ℕ) → now.is_on ≡ true
+    → now.plan ≡ Some (record (plan_by Quiet meddles) { at = made }) → StepGoes act now new fault
+    → fault ≡ None
+quiet_step act now new fault meddles made on planned g =
+    let plan : Plan = record (plan_by Quiet meddles) { at = made } in
+    (g.told plan planned).answers ∙ ap (λ (x : Bool). fault_by_plan x plan) on
+
+-- every device step fails on this platform
+abbrev pub AlwaysFails : Standing → Type 0
+AlwaysFails now = (act : Act) (new : Standing) (fault : Option StepFault) → StepGoes act now new fault → fault ≡ None → ⊥
+
+-- A call of the machine in flight: its step under another plan, what it goes on to, and a step that fails.
 
 -- Under another plan that says the same of the step
 
@@ -253,3 +334,88 @@ module _ {A R : Type 0} where
       ends = (refl, refl);
     }
     steps_fail (Changing ready) old new fault g = change_fails ready.change ready.answer old new fault g
+
+-- How a call in flight begins, takes in others' values and goes on, and how it ends.
+
+-- a call before its first step
+pub begins : {E : Type 0} (calls rest : Standing → Standing → E → Type 0) (old : Standing) → old.is_on ≡ true
+    → old.plan ≡ Some (plan_by Quiet [])
+    → ((from new : Standing) (ended : E) → rest from new ended → calls from new ended) → IsCallInFlight calls rest old old [] 0
+begins calls rest old on planned whole = record {
+  is_on = on;
+  planned = planned;
+  cell = refl;
+  few = omega arith;
+  joins = λ plan goes new ended r. whole (standing_under plan 0 old) new ended r;
+}
+
+-- others extend the register just before the next step
+
+-- the meddles with one more, at this step
+abbrev pub meddled : List Meddle → ℕ → Digest → List Meddle
+meddled meddles step value = meddles ++ record { step = step; value = value } ∷ []
+
+due_more : (n step : ℕ) (meddles : List Meddle) (value : Digest) → (step == n) ≡ false → due_values n (meddled meddles step value)
+    ≡ due_values n meddles
+due_more n step meddles value other =
+    let p : Meddle → Bool = λ m. m.step == n in
+    let m : Meddle = record { step = step; value = value } in
+    simp (filter-append p meddles (m ∷ []), other, append-nil (filter p meddles))
+
+goes_before : (plan : Plan) (meddles : List Meddle) (made : ℕ) (value : Digest)
+    → PlanAgreesWith plan (meddled meddles (made + 1) value) made
+    → PlanAgreesWith plan meddles made
+goes_before plan meddles made value goes = λ n few.
+    let same : PlansAgreeAt plan (plan_by Quiet (meddled meddles (made + 1) value)) n = goes n few in record {
+      brings = same.brings ∙ due_more n (made + 1) meddles value (ne_eqb (made + 1) n (λ e. omega (arith, few, e)));
+      answers = same.answers;
+      makes = same.makes;
+      stays = same.stays;
+    }
+
+pub takes_in : {E : Type 0} (calls rest : Standing → Standing → E
+    → Type 0) (old now new : Standing) (meddles : List Meddle) (made : ℕ) (value : Digest) → IsCallInFlight calls rest old now meddles made
+    → new ≡ record now { plan = option_map (plan_with_meddle value) now.plan }
+    → IsCallInFlight calls rest old new (meddled meddles (made + 1) value) made
+takes_in calls rest old now new meddles made value f e = record {
+  is_on = ap (λ (s : Standing). s.is_on) e ∙ f.is_on;
+  planned = ap (λ (s : Standing). s.plan) e ∙ ap (λ (p : Option Plan). option_map (plan_with_meddle value) p) f.planned
+      ∙ ap (λ (k : ℕ). Some (record (plan_by Quiet (meddled meddles k value)) { at = made })) (counted_few made f.few);
+  cell = ap (λ (s : Standing). s.cell) e ∙ f.cell;
+  few = f.few;
+  joins = λ plan goes end ended r.
+      f.joins plan (goes_before plan meddles made value goes) end ended
+      (subst (λ (s : Standing). rest s end ended) (ap (standing_under plan made) e) r);
+}
+
+-- it goes on with its next step
+
+pub replans : (plan : Plan) (now : Standing) (meddles : List Meddle) (made : ℕ) → now.is_on ≡ true
+    → now.plan ≡ Some (record (plan_by Quiet meddles) { at = made }) → made < 255
+    → PlansAgreeAt plan (plan_by Quiet meddles) (made + 1) → Replans plan (plan_by Quiet meddles) made now
+replans plan now meddles made on planned few same = record {
+  is_on = on;
+  planned = planned;
+  same = subst (λ (n : ℕ). PlansAgreeAt plan (plan_by Quiet meddles) n) (sym (counted_few made few)) same;
+}
+
+pub goes_on : {E : Type 0} (calls rest later : Standing → Standing → E
+    → Type 0) (old now new : Standing) (meddles : List Meddle) (made : ℕ) → IsCallInFlight calls rest old now meddles made
+    → Moves now new → made + 1 < 255
+    → ((plan : Plan) → Replans plan (plan_by Quiet meddles) made now → (end : Standing) (ended : E)
+    → later (standing_under plan (next_count made) new) end ended → rest (standing_under plan made now) end ended)
+    → IsCallInFlight calls later old new meddles (made + 1)
+goes_on calls rest later old now new meddles made f m few leads =
+    let q : Plan = plan_by Quiet meddles in
+    let is : IsAt now q made = record { is_on = f.is_on; planned = f.planned } in
+    let on = room_at m.middle new q (next_count made) m.room (then_at m.act now m.middle q made is m.goes) in
+    let more : next_count made ≡ made + 1 = counted_few made f.few in record {
+      is_on = on.is_on;
+      planned = on.planned ∙ ap (λ (k : ℕ). Some (record q { at = k })) more;
+      cell = ap (λ (s : Standing). s.cell) m.room ∙ m.keeps ∙ f.cell;
+      few = few;
+      joins = λ plan goes end ended r.
+          f.joins plan (λ n less. goes n (omega (arith, less))) end ended
+          (leads plan (replans plan now meddles made f.is_on f.planned f.few (goes (made + 1) (omega arith))) end ended
+          (subst (λ (k : ℕ). later (standing_under plan k new) end ended) (sym more) r));
+    }

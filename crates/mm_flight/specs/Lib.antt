@@ -1,2 +1,1 @@
 pub mod Flight
-pub mod Machine

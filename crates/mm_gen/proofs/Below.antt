@@ -17,24 +17,19 @@ pub use Rattle.mm_bytes.specs.Limits.{longest_line, most_events}
 pub use Rattle.mm_digest.specs.declared.variant.Variant.{Variant}
 pub use Rattle.mm_digest.specs.declared.variant.Variant.TheVariants.{Basic, Opt}
 pub use Rattle.mm_modules.specs.Modules.{any_is_found, any_is_listed, name_of}
-pub use Rattle.mm_schedule.specs.Events.{Ask, Checkpoint, Event, Power}
-pub use Rattle.mm_schedule.specs.Grammar.{event_at}
+pub use Rattle.mm_schedule.specs.Events.{Ask, Checkpoint, Event, Power, event_at}
 pub use Rattle.mm_schedule.specs.Headers.{header_at, header_text, variant_text}
 pub use Rattle.mm_schedule.specs.Replies.{end_line}
 pub use Rattle.mm_schedule.specs.declared.header.Header.{Header}
 pub use Rattle.mm_schedule.proofs.Above.{header-read, spelled_is_read}
-pub use Rattle.mm_outcome.specs.Folds.{RunOutcome, outcome_of_events, outcome_by_digests}
-pub use Rattle.mm_outcome.specs.WorldState.{world_of}
+pub use Rattle.mm_outcome.specs.Premises.{RunOutcome, outcome_of_events, outcome_by_digests}
+pub use Rattle.mm_outcome.specs.OneRun.{world_of}
 pub use Rattle.mm_replay.specs.Progress.{running_replay}
 pub use Rattle.mm_replay.specs.Schedule.{running_replay_after, stage_among_events, header_stage, first_running_replay, is_too_much}
-pub use Rattle.mm_replay.specs.Schedule.{ReplayStage, RunningReplay, running_outcome, schedule_answer, schedule_closing}
-pub use Rattle.mm_replay.specs.Text.{text_of_replies}
-pub use Rattle.mm_gen.specs.Laws.{IsEventLine, IsSchedule}
-pub use Rattle.mm_gen.specs.Limits.{is_over, IsLimited}
-pub use Rattle.mm_gen.specs.LineBreaks.{is_break, line_at}
-pub use Rattle.mm_gen.specs.Schedules.{lines_from, schedule_lines, schedule_text, seed_from, words_at}
-pub use Rattle.mm_gen.specs.Sums.{SumsUp}
-pub use Rattle.mm_gen.specs.TurnLines.{ask_text, cut_word, pair, chosen_request, row_14, row_15, turn_lines}
+pub use Rattle.mm_replay.specs.Schedule.{ReplayStage, RunningReplay, running_outcome, schedule_answer, schedule_closing, text_of_replies}
+pub use Rattle.mm_gen.specs.Schedules.{IsEventLine, IsSchedule, is_over, IsLimited, is_break, line_at, lines_from, schedule_lines}
+pub use Rattle.mm_gen.specs.Schedules.{schedule_text, seed_from, words_at, SumsUp, ask_text, cut_word, pair, chosen_request, row_14, row_15}
+pub use Rattle.mm_gen.specs.Schedules.{turn_lines}
 pub use Rattle.mm_gen.specs.declared.fault.BulkFault.{BulkFault}
 pub use Rattle.mm_gen.specs.declared.fault.BulkFault.TheVariants.{Memory, TooMuch}
 pub use Rattle.mm_gen.specs.declared.summary.Summary.{Summary}

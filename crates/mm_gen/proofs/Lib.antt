@@ -1,5 +1,4 @@
 mod Below
-mod Going
+mod Replaying
 mod Spelled
 mod Tallying
-mod Replaying

@@ -6,7 +6,7 @@ use Rattle.mm_gen.proofs.Below.{Checkpoint, Power, IsEventLine, ask_text, cut_wo
 use Rattle.mm_gen.proofs.Below.{length-take-le, All-from_recursion, All-nil, All-take, All-weaker, recursion_from_All, key_of, joined_lines}
 use Rattle.mm_gen.proofs.Below.{lines_of, tail_of, lines_of-joined, tail_of-joined, most_events, header_text, variant_text, IsSchedule}
 use Rattle.mm_gen.proofs.Below.{lines_from, schedule_lines, seed_from, words_at}
-use Rattle.mm_gen.specs.TurnLines.{turn_lines}
+use Rattle.mm_gen.specs.Schedules.{turn_lines}
 use Rattle.std.proofs.lemmas.Fmt.{length-decimal-le}
 use Rattle.mm_listing.specs.Listing.{is_name_byte}
 use Rattle.mm_module.specs.LineLaws.{All-is_unbroken, and-both, and-true, is_unbroken, is_unbroken-decimal}
@@ -17,7 +17,7 @@ use Rattle.mm_platform.specs.declared.plan.Stop.{Stop}
 use Rattle.mm_platform.specs.declared.plan.Stop.TheVariants.{Quiet, Cut, Drop, Fail}
 use Rattle.mm_schedule.specs.declared.event.Offer.{Offer}
 use Rattle.mm_schedule.specs.declared.event.Offer.TheVariants.{Number, Last, Flip}
-use Rattle.mm_schedule.specs.Spelling.{SpellsNumber, SpellsOffer, SpellsStep, SpellsStop}
+use Rattle.mm_schedule.specs.Events.{SpellsNumber, SpellsOffer, SpellsStep, SpellsStop}
 use Rattle.std.proofs.lemmas.List.{append-nil}
 use Rattle.std.specs.Prelude.{nat_le, ◌&&◌}
 

@@ -14,10 +14,8 @@ use Rattle.mm_schedule.specs.declared.reply.Reply.{Reply}
 use Rattle.mm_schedule.specs.declared.reply.Reply.TheVariants.{Told}
 use Rattle.mm_gen.proofs.Spelled.{header-unbroken, is_schedule}
 use Rattle.mm_model.specs.Moves.{Digests}
-use Rattle.mm_call.specs.Levels.{digest_level}
-use Rattle.mm_gen.specs.Limits.{RunsLine}
-use Rattle.mm_gen.specs.Sums.{counts_after_reply, counts_of, no_counts, total}
-use Rattle.mm_gen.specs.LineBreaks.{line_at}
+use Rattle.mm_call.specs.CallFinding.{digest_level}
+use Rattle.mm_gen.specs.Schedules.{RunsLine, counts_after_reply, counts_of, no_counts, total, line_at}
 use Rattle.mm_gen.specs.declared.counts.ReplyCounts.{ReplyCounts}
 use Rattle.std.specs.List.{flat_map}
 use Rattle.std.specs.Option.{option_map_or}

@@ -1,9 +1,1 @@
-pub mod Laws
-pub mod Limits
-pub mod LineBreaks
-pub mod Lines
-pub mod Replay
 pub mod Schedules
-pub mod Summaries
-pub mod Sums
-pub mod TurnLines

@@ -2,7 +2,7 @@
 
 ghost use Rattle.std.specs.Prelude.{◌≡◌, ◌+◌, ◌<◌};
 ghost use Rattle.mm_bytes.specs.Limits.{most_events};
-ghost use Rattle.mm_gen.specs.Sums.{counts_after_reply, no_counts, total};
+ghost use Rattle.mm_gen.specs.Schedules.{counts_after_reply, no_counts, total};
 
 use mm_schedule::Reply;
 

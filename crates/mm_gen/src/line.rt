@@ -2,8 +2,7 @@
 
 ghost use Rattle.std.specs.Prelude.{◌≡◌, ◌++◌, ◌∷◌, [], OnOk};
 ghost use Rattle.std.specs.Fmt.{decimal};
-ghost use Rattle.mm_gen.specs.Lines.{line_text, snapshot_text, stop_text};
-ghost use Rattle.mm_gen.specs.TurnLines.{chosen_request};
+ghost use Rattle.mm_gen.specs.Schedules.{line_text, snapshot_text, stop_text, chosen_request};
 
 use mm_bytes::{Bytes, Memory, put_decimal, put_numbered};
 use mm_listing::Listed;

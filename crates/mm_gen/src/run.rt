@@ -4,17 +4,12 @@ ghost use Rattle.std.specs.Prelude.{◌≡◌, ◌<◌, ◌≤◌, ◌++◌, ℕ
 ghost use Rattle.sha2.specs.Sha256.{sha256};
 ghost use Rattle.mm_bytes.specs.Limits.{longest_line, most_events};
 ghost use Rattle.mm_base.specs.Input.{joined_lines, lines_of};
-ghost use Rattle.mm_schedule.specs.Grammar.{event_at};
+ghost use Rattle.mm_schedule.specs.Events.{event_at};
 ghost use Rattle.mm_schedule.specs.Replies.{IsPrintable};
-ghost use Rattle.mm_gen.specs.Schedules.{schedule_lines};
+ghost use Rattle.mm_gen.specs.Schedules.{schedule_lines, IsEventLine, IsLimited, RunsLine, is_over, line_at, IsReplayed, replay_of, SumsUp};
+ghost use Rattle.mm_gen.specs.Schedules.{counts_after_reply, total};
 ghost use Rattle.mm_replay.specs.Progress.{running_replay};
-ghost use Rattle.mm_replay.specs.Schedule.{first_running_replay, is_too_much};
-ghost use Rattle.mm_replay.specs.Text.{text_of_replies};
-ghost use Rattle.mm_gen.specs.Laws.{IsEventLine};
-ghost use Rattle.mm_gen.specs.Limits.{IsLimited, RunsLine, is_over};
-ghost use Rattle.mm_gen.specs.LineBreaks.{line_at};
-ghost use Rattle.mm_gen.specs.Replay.{IsReplayed, replay_of};
-ghost use Rattle.mm_gen.specs.Sums.{SumsUp, counts_after_reply, total};
+ghost use Rattle.mm_replay.specs.Schedule.{first_running_replay, is_too_much, text_of_replies};
 
 use crate::breaks::first_line;
 use crate::counts::ReplyCounts;

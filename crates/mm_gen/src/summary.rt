@@ -1,7 +1,7 @@
 //! What is told of a schedule that was run.
 
 ghost use Rattle.std.specs.Prelude.{◌≡◌, [], ◌∷◌, ◌++◌, IfOk, OnOk};
-ghost use Rattle.mm_gen.specs.Summaries.{bulk_text, events_text, other_counts, replies_text, told_counts};
+ghost use Rattle.mm_gen.specs.Schedules.{bulk_text, events_text, other_counts, replies_text, told_counts};
 
 use crate::counts::ReplyCounts;
 use mm_bytes::{Bytes, Memory, put_numbered};

@@ -4,8 +4,7 @@ ghost use Rattle.std.specs.Prelude.{◌≡◌, ◌<◌, ℕ, List, [], ◌∷◌
 ghost use Rattle.std.specs.Fmt.{decimal};
 ghost use Rattle.mm_base.specs.Input.{joined_lines};
 ghost use Rattle.mm_platform.specs.declared.plan.Stop.TheVariants.{Quiet};
-ghost use Rattle.mm_gen.specs.Lines.{lines_of_turn, stop_text};
-ghost use Rattle.mm_gen.specs.TurnLines.{cut_word, chosen_request, row_14, row_15, turn_lines};
+ghost use Rattle.mm_gen.specs.Schedules.{lines_of_turn, stop_text, cut_word, chosen_request, row_14, row_15, turn_lines};
 ghost use Rattle.mm_gen.specs.declared.line.Line.TheVariants.{Ask};
 ghost use Rattle.mm_gen.specs.declared.line.SnapshotChoice.TheVariants.{Last};
 ghost use Rattle.mm_gen.specs.declared.turn.TurnLines.TheVariants.{Pair};
@@ -25,7 +24,7 @@ pub enum TurnLines {
 }
 
 /// The lines that these words give, where the first is the event line with this number.
-#[tactic(auto, unfolding(crate::specs::TurnLines::turn_lines))]
+#[tactic(auto, unfolding(crate::specs::Schedules::turn_lines))]
 fn turn_of(header: &Header, first: u32, words: &TurnWords) -> TurnLines
     requires { 0 < first }
     ensures { lines_of_turn (chosen_request header.now.module words.now.request) result

@@ -14,7 +14,7 @@ pub use Rattle.std.proofs.lemmas.List.{take-append-drop, take-append-le, take-ma
 pub use Rattle.mm_digest.specs.Messages.{anchored_digest_of, start_digest_of, zero_bytes}
 pub use Rattle.mm_digest.specs.declared.variant.Variant.{Variant}
 pub use Rattle.mm_digest.specs.declared.variant.Variant.TheVariants.{Basic, Opt}
-pub use Rattle.mm_seal.specs.Body.{content_of}
+pub use Rattle.mm_seal.specs.Parts.{content_of}
 pub use Rattle.mm_seal.specs.Snapshot.{Content}
 pub use Rattle.mm_seal.specs.declared.snapshot.Place.{Place}
 pub use Rattle.mm_seal.specs.declared.snapshot.Place.TheVariants.{Basic as InBasic, Opt as InOpt}
@@ -23,20 +23,15 @@ pub use Rattle.mm_module.specs.Meaning.{Meaning, state_after}
 pub use Rattle.mm_module.specs.RunLaws.{state_after-append, state_after-is_spelled}
 pub use Rattle.mm_modules.specs.Modules.{meaning_of}
 pub use Rattle.mm_model.specs.BatchLaws.{is_same_batch-Decides, total-cons}
-pub use Rattle.mm_model.specs.Chains.{guard, link, register_of, summary_of}
-pub use Rattle.mm_model.specs.ChainsWords.{own_values}
+pub use Rattle.mm_model.specs.Chains.{guard, link, register_of, summary_of, own_values, Instance, instance_by}
 pub use Rattle.mm_model.specs.FormLaws.{reads_zero}
 pub use Rattle.mm_model.specs.History.{RegisterEntry, History, items_of_all, entries_with_last_batch, requests_of, total_of}
-pub use Rattle.mm_model.specs.History.{extension_value}
-pub use Rattle.mm_model.specs.HistoryLaws.{has_value-append, renamed-push}
-pub use Rattle.mm_model.specs.HistoryWords.{values_of}
-pub use Rattle.mm_model.specs.Instance.{Instance}
-pub use Rattle.mm_model.specs.InstanceWords.{instance_by}
-pub use Rattle.mm_model.specs.KeptHistory.{kept_batch, kept_batches, kept_entries, kept_entry, kept_segments}
-pub use Rattle.mm_model.specs.Life.{has_value, is_empty, is_same_batch}
-pub use Rattle.mm_model.specs.Long.{is_long}
-pub use Rattle.mm_model.specs.Places.{anchor_after, at_anchor, in_closed, in_current, IsPlaceOf, IsPoint, NamesPosition}
-pub use Rattle.mm_model.specs.SegmentLaws.{joined-push, not_empty}
+pub use Rattle.mm_model.specs.History.{extension_value, values_of}
+pub use Rattle.mm_model.specs.SegmentLaws.{has_value-append, renamed-push, joined-push, not_empty}
+pub use Rattle.mm_model.specs.Verdicts.{kept_batch, kept_batches, kept_entries, kept_entry, kept_segments}
+pub use Rattle.mm_model.specs.Standing.{has_value, is_empty, is_same_batch, anchor_after, at_anchor, in_closed, in_current, IsPlaceOf}
+pub use Rattle.mm_model.specs.Standing.{IsPoint, NamesPosition}
+pub use Rattle.mm_model.specs.Moves.{is_long}
 pub use Rattle.mm_model.specs.declared.kept.KeptBatch.{KeptBatch}
 pub use Rattle.mm_model.specs.declared.kept.KeptEntry.{KeptEntry}
 pub use Rattle.mm_history.specs.MarkLaws.{and_true, own_more}

@@ -12,27 +12,24 @@ use Rattle.std.proofs.lemmas.Bool.{ne_eqb}
 use Rattle.std.proofs.lemmas.Slice.Eq.{bytes_eq-Decides}
 use Rattle.std.proofs.Math.Seq.{take-append_seam, drop-length}
 use Rattle.mm_model.specs.BatchLaws.{same_tests}
-use Rattle.mm_history.proofs.FirstLaws.{first_is, le-Decides}
-use Rattle.mm_history.specs.Waymarks.{IsBetween, IsWaymark, digest_behind}
-use Rattle.mm_history.specs.Marks.{marks_of}
+use Rattle.mm_history.proofs.NameLaws.{first_is, le-Decides}
+use Rattle.mm_history.specs.Naming.{IsBetween, IsWaymark, digest_behind, marks_of, EndsWithCurrent, BeginsBefore, IsStage, stage_at}
 use Rattle.mm_history.specs.declared.marks.HistoryMarks.{HistoryMarks}
 use Rattle.mm_digest.specs.declared.digest.Digest.{Digest}
-use Rattle.mm_model.specs.Instance.{Instance}
-use Rattle.mm_model.specs.HistoryWords.{cell_digest_of}
-use Rattle.mm_history.specs.Waymarks.{EndsWithCurrent}
+use Rattle.mm_model.specs.Chains.{Instance}
+use Rattle.mm_model.specs.History.{cell_digest_of}
 use Rattle.mm_history.proofs.PlaceLaws.{last_are}
 use Rattle.mm_history.proofs.Below.{RegisterEntry, anchored_digest_of, append_assoc, has_value, has_value-append, items_of_all, joined-push}
 use Rattle.mm_history.proofs.Below.{not, values_of}
-use Rattle.mm_model.specs.PlacesWords.{digest_of}
+use Rattle.mm_model.specs.Standing.{digest_of}
 use Rattle.mm_history.proofs.Below.{Decides-ltb}
 use Rattle.std.proofs.lemmas.Bool.{and_parts}
 use Rattle.std.proofs.lemmas.List.{nil_from_length}
 use Rattle.mm_model.specs.BatchLaws.{total-push}
 use Rattle.mm_model.specs.SegmentLaws.{same_halves}
 use Rattle.mm_history.proofs.TakenLaws.{anchor_more, not_or}
-use Rattle.mm_history.specs.Waymarks.{BeginsBefore, IsStage, stage_at}
 use Rattle.mm_history.specs.declared.waymarks.SegmentStart.{SegmentStart}
-use Rattle.mm_history.specs.WaymarkLaws.{each_found}
+use Rattle.mm_history.specs.MarkLaws.{each_found}
 use Rattle.mm_history.specs.declared.waymarks.Waymark.{Waymark}
 
 -- behind no batch left out the register is zero

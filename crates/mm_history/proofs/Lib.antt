@@ -1,7 +1,5 @@
 mod Below
-mod FirstLaws
-mod TakenLaws
 mod NameLaws
+mod TakenLaws
 mod KnownLaws
 mod PlaceLaws
-mod MessageLaws

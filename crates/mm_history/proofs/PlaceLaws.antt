@@ -8,9 +8,8 @@ use Rattle.mm_history.proofs.Below.{KeptEntry, kept_batch, kept_batches, kept_en
 use Rattle.mm_history.proofs.Below.{anchor_at, is_at, is_behind, is_here, is_inside_at, some_place, is_place_in, is_place, is_named_at}
 use Rattle.mm_history.proofs.Below.{instance_by, IsDecided, and_true, zero_bytes, nat_lt}
 use Rattle.std.specs.Prelude.{◌&&◌}
-use Rattle.mm_history.proofs.NameLaws.{named_by}
-use Rattle.mm_history.proofs.FirstLaws.{le-Decides, same-Decides}
-use Rattle.mm_history.specs.Waymarks.{BeginsBefore, EndsWithCurrent, IsStage, stage_at}
+use Rattle.mm_history.proofs.NameLaws.{named_by, le-Decides, same-Decides}
+use Rattle.mm_history.specs.Naming.{BeginsBefore, EndsWithCurrent, IsStage, stage_at}
 use Rattle.mm_history.proofs.Below.{◌||◌, append-nil, append_assoc, inl, inr, is_within, nat_le}
 use Rattle.mm_history.specs.declared.waymarks.SegmentStart.{SegmentStart}
 use Rattle.std.specs.List.{AllByRecursion}

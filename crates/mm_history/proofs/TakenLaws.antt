@@ -1,18 +1,20 @@
--- One more of a list that is walked over.
+-- One more of a list that is walked over. With it: messages that are listed one behind another.
+use Rattle.std.specs.Prelude.{◌&&◌}
+use Rattle.std.proofs.Common.{OnOk, Result, Ok, Err}
+use Rattle.std.proofs.lemmas.Bool.{false_from_ne_true}
+use Rattle.std.proofs.lemmas.List.{take_more}
+use Rattle.mm_bytes.specs.declared.fault.Memory.{Memory}
+use Rattle.mm_module.specs.Meaning.{state_from}
+use Rattle.mm_model.specs.BatchLaws.{requests-push}
+use Rattle.mm_model.specs.Chains.{anchor_of}
+use Rattle.mm_model.specs.ListLaws.{anchor-push}
 use Rattle.mm_history.proofs.Below.{◌≡◌, ◌≢◌, ℕ, zero, suc, ◌+◌, ◌<◌, Bool, true, false, ◌||◌, List, [], ◌∷◌, ◌++◌, length, map, take, drop}
 use Rattle.mm_history.proofs.Below.{get_or, Some, refl, sym, ap, ◌∙◌, arith, Vec, not, nat_lt, bytes_eq, list_any, option_map, or_parts}
 use Rattle.mm_history.proofs.Below.{or_from, Decides-ltb, append-nil, map-append, take-map, drop_more, length-map, Batch, members_of}
 use Rattle.mm_history.proofs.Below.{Meaning, state_after, state_after-append, anchored_digest_of, register_of, own_values, RegisterEntry}
 use Rattle.mm_history.proofs.Below.{requests_of, values_of, is_long, KeptBatch, KeptEntry, kept_batch, kept_batches, kept_entries}
-use Rattle.mm_history.proofs.Below.{kept_segments, first_with, same_batches, anchor_at, is_behind}
-use Rattle.std.specs.Prelude.{◌&&◌}
-use Rattle.mm_module.specs.MeaningWords.{state_from}
-use Rattle.mm_model.specs.Chains.{anchor_of}
-use Rattle.mm_model.specs.DigestLaws.{anchor-push}
-use Rattle.mm_model.specs.BatchLaws.{requests-push}
-use Rattle.std.proofs.lemmas.Bool.{false_from_ne_true}
-use Rattle.std.proofs.lemmas.List.{take_more}
-use Rattle.mm_history.proofs.FirstLaws.{same-Decides}
+use Rattle.mm_history.proofs.Below.{kept_segments, first_with, same_batches, anchor_at, is_behind, append_assoc}
+use Rattle.mm_history.proofs.NameLaws.{same-Decides}
 
 -- one more of a list, as contracts see it
 pub taken : {K E : Type 0} (kept : K → E) (xs : List K) (i : ℕ) (x : K) → i < length xs → x ≡ get_or xs i x
@@ -90,3 +92,12 @@ pub anchor_more : (id : ℕ) (barrier : List ℕ) (before : List (List RegisterE
     (register_of (values_of barrier segment))
 anchor_more id barrier before segment = ap (anchor_of id) (map-append (values_of barrier) before (segment ∷ []))
     ∙ anchor-push id (map (values_of barrier) before) (values_of barrier segment)
+
+-- Messages that are listed one behind another.
+
+-- those behind others, where the last call's result is handed on
+pub listed_behind : (result : Result (Unit {0}) Memory) (old between new first more whole : List (List ℕ)) → between ≡ old ++ first
+    → first ++ more ≡ whole → OnOk result (new ≡ between ++ more) → OnOk result (new ≡ old ++ whole)
+listed_behind (Ok done) old between new first more whole before all is =
+    is ∙ ap (λ (xs : List (List ℕ)). xs ++ more) before ∙ append_assoc old first more ∙ ap (λ (xs : List (List ℕ)). old ++ xs) all
+listed_behind (Err fault) old between new first more whole before all is = tt

@@ -1,27 +1,30 @@
--- What a history comes to goes on with its moves.
-use Rattle.std.proofs.Common.{ℕ, suc, ◌≡◌, Bool, true, false, ◌&&◌, List, [], ◌∷◌, ◌++◌, length, map, refl, sym, ap, ◌∙◌, arith}
+-- What a history comes to goes on with its moves. With it: what is kept of positions stays of a
+-- history that goes on.
+use Rattle.std.specs.List.{AllByRecursion, slice_get}
 use Rattle.std.specs.Prelude.{nat_le}
+use Rattle.std.proofs.Common.{ℕ, suc, ◌≡◌, Bool, true, false, ◌&&◌, List, [], ◌∷◌, ◌++◌, length, map, refl, sym, ap, ◌∙◌, arith, zero, Some}
+use Rattle.std.proofs.Common.{subst, append_assoc}
 use Rattle.std.proofs.lemmas.Bool.{and_right}
-use Rattle.std.proofs.lemmas.List.{map-append}
 use Rattle.std.proofs.lemmas.Bool.Decides.{nat_tests}
+use Rattle.std.proofs.lemmas.List.{map-append, append-nil}
+use Rattle.mm_digest.specs.Messages.{extended_digest_of}
 use Rattle.mm_digest.specs.declared.variant.Variant.{Variant}
 use Rattle.mm_digest.specs.declared.variant.Variant.TheVariants.{Basic, Opt}
-use Rattle.mm_digest.specs.Messages.{extended_digest_of}
 use Rattle.mm_module.specs.Batch.{Batch, size_of}
-use Rattle.mm_model.specs.Chains.{link, guard, register_of, anchor_of, summary_of}
-use Rattle.mm_model.specs.ChainsWords.{own_values}
-use Rattle.mm_model.specs.Instance.{Instance}
-use Rattle.mm_model.specs.History.{RegisterEntry, Own, Value, History, items_of_all, entries_with_last_batch, history_after_commit}
-use Rattle.mm_model.specs.HistoryWords.{values_of, cell_digest_of}
-use Rattle.mm_model.specs.Life.{is_empty, has_value, are_own, is_same_batch}
-use Rattle.mm_model.specs.PlacesWords.{digest_of}
+use Rattle.mm_module.specs.Meaning.{Meaning}
 use Rattle.mm_model.specs.BatchLaws.{is_same_batch-Decides, total-push}
-use Rattle.mm_model.specs.DigestLaws.{summary-push, register-push, anchor-push}
+use Rattle.mm_model.specs.Chains.{link, guard, register_of, anchor_of, summary_of, own_values, Instance}
 use Rattle.mm_model.specs.FormLaws.{reads_zero}
-use Rattle.mm_model.specs.HistoryLaws.{own_values-append, has_value-append, register_more}
-use Rattle.mm_model.specs.SegmentLaws.{joined-push}
-use Rattle.mm_history.specs.Marks.{marks_of, with_value, emptied_marks, closed_digest, closed_marks, linked_marks, grown_marks}
-use Rattle.mm_history.specs.Marks.{opened_marks}
+use Rattle.mm_model.specs.History.{RegisterEntry, Own, Value, History, items_of_all, entries_with_last_batch, history_after_commit}
+use Rattle.mm_model.specs.History.{values_of, cell_digest_of}
+use Rattle.mm_model.specs.ListLaws.{summary-push, register-push, anchor-push}
+use Rattle.mm_model.specs.SegmentLaws.{own_values-append, has_value-append, register_more, joined-push}
+use Rattle.mm_model.specs.Standing.{is_empty, has_value, are_own, is_same_batch, digest_of}
+use Rattle.mm_history.specs.declared.waymarks.SegmentStart.{SegmentStart}
+use Rattle.mm_history.specs.declared.waymarks.Waymark.{Waymark}
+use Rattle.mm_history.specs.declared.waymarks.Waymarks.{Waymarks}
+use Rattle.mm_history.specs.Naming.{marks_of, with_value, emptied_marks, closed_digest, closed_marks, linked_marks, grown_marks}
+use Rattle.mm_history.specs.Naming.{opened_marks, AreWaymarks, EndsWithCurrent, IsStage, IsWaymark}
 
 pub own_more : (barrier : List ℕ) (batches : List Batch) (b : Batch)
     → register_of (own_values barrier (batches ++ b ∷ [])) ≡ extended_digest_of (register_of (own_values barrier batches)) (guard barrier b)
@@ -158,3 +161,61 @@ marks_opened i y b e = λ j. record (marks_of i y) {
   register = digest_of (register_of (values_of i.barrier (entries_with_last_batch y.items b)));
   is_own = own_opened y.items b j;
 }
+
+-- What is kept of positions stays of a history that goes on.
+
+pub each_then : {A : Type 0} {P Q : A → Type 0} → ((x : A) → P x → Q x) → (xs : List A) → AllByRecursion P xs → AllByRecursion Q xs
+each_then f [] h = tt
+each_then f (x ∷ xs) h = (f x h.0, each_then f xs h.1)
+
+pub each_found : {A : Type 0} (P : A → Type 0) (xs : List A) (n : ℕ) (x : A) → AllByRecursion P xs → slice_get xs n ≡ Some x → P x
+each_found P [] n x h e = absurd (cc)
+each_found P (z ∷ xs) zero x h e = subst P (let same : z ≡ x = cc in same) h.0
+each_found P (z ∷ xs) (suc n) x h e = each_found P xs n x h.1 e
+
+stage_on : {id : ℕ} {barrier : List ℕ} (closed more : List (List RegisterEntry)) (stage : SegmentStart) → IsStage id barrier closed stage
+    → IsStage id barrier (closed ++ more) stage
+stage_on closed more stage s = record {
+  before = s.before;
+  later = s.later ++ more;
+  split = ap (λ (ss : List (List RegisterEntry)). ss ++ more) s.split ∙ append_assoc s.before s.later more;
+  is = s.is;
+}
+
+module _ {variant : Variant} {meaning : Meaning} {barrier : List ℕ} where
+  mark_on : (batches more : List Batch) (mark : Waymark) → IsWaymark variant meaning barrier batches mark
+      → IsWaymark variant meaning barrier (batches ++ more) mark
+  mark_on batches more mark m = record {
+    front = m.front;
+    rest = m.rest ++ more;
+    split = ap (λ (bs : List Batch). bs ++ more) m.split ∙ append_assoc m.front m.rest more;
+    count_is = m.count_is;
+    position_is = m.position_is;
+    digest_is = m.digest_is;
+    state_is = m.state_is;
+  }
+
+  -- more batches and closed segments
+  pub ways_on : {y z : History} {ways : Waymarks} (more : List Batch) (segments : List (List RegisterEntry)) → z.batches ≡ y.batches ++ more
+      → z.closed ≡ y.closed ++ segments → (variant ≡ Opt → EndsWithCurrent z) → AreWaymarks variant meaning barrier y ways
+      → AreWaymarks variant meaning barrier z ways
+  ways_on {y} {z} {ways} more segments batches closed ends w = record {
+    marks = subst (λ (bs : List Batch). AllByRecursion (IsWaymark variant meaning barrier bs) ways.marks.items) (sym batches)
+        (each_then (mark_on y.batches more) ways.marks.items w.marks);
+    stages = λ opt. subst (λ (ss : List (List RegisterEntry)). AllByRecursion (IsStage meaning.id barrier ss) ways.stages.items)
+        (sym closed)
+        (each_then (stage_on y.closed segments) ways.stages.items (w.stages opt));
+    ends = ends;
+  }
+
+  -- the same batches and segments
+  pub ways_still : {y z : History} {ways : Waymarks} → z.batches ≡ y.batches → z.closed ≡ y.closed → z.current ≡ y.current
+      → AreWaymarks variant meaning barrier y ways → AreWaymarks variant meaning barrier z ways
+  ways_still {y} {z} {ways} batches closed current w =
+      ways_on [] [] (batches ∙ sym (append-nil y.batches)) (closed ∙ sym (append-nil y.closed)) (λ opt. record {
+        done = (w.ends opt).done;
+        is = batches ∙ (w.ends opt).is ∙ ap (λ (bs : List Batch). (w.ends opt).done ++ bs) (sym current);
+      }) w
+
+pub each_of_none : {A : Type 0} (P : A → Type 0) (xs : List A) → xs ≡ [] → AllByRecursion P xs
+each_of_none P xs e = subst (AllByRecursion P) (sym e) tt

@@ -5,7 +5,7 @@ ghost use Rattle.std.specs.List.{All};
 ghost use Rattle.mm_digest.specs.Messages.{anchored_digest_of, extended_digest_of};
 ghost use Rattle.mm_module.specs.Batches.{batch_of};
 ghost use Rattle.mm_model.specs.Chains.{guard, guard_message};
-ghost use Rattle.mm_history.specs.KnownPairs.{IsKnownPair, pair_digest};
+ghost use Rattle.mm_history.specs.Naming.{IsKnownPair, pair_digest};
 
 use crate::message::Message;
 use crate::messages::guard_message;
@@ -42,7 +42,7 @@ pub struct KnownDigests {
 
 impl Model for KnownDigests {
     ghost use Rattle.std.specs.List.{All};
-    ghost use Rattle.mm_history.specs.KnownPairs.{IsKnownPair};
+    ghost use Rattle.mm_history.specs.Naming.{IsKnownPair};
 
     ghost Value = { Unit {0} };
 

@@ -2,7 +2,7 @@
 
 ghost use Rattle.std.specs.Prelude.{◌≡◌, ◌<◌, vec_len, vec_capacity};
 ghost use Rattle.mm_model.specs.History.{entries_with_last_batch};
-ghost use Rattle.mm_model.specs.KeptHistory.{kept_batch, kept_entries};
+ghost use Rattle.mm_model.specs.Verdicts.{kept_batch, kept_entries};
 
 use crate::marks::register_of;
 use mm_bytes::Memory;
@@ -25,7 +25,7 @@ pub struct HistoryLists {
 
 impl Model for HistoryLists {
     ghost use Rattle.mm_model.specs.History.{History};
-    ghost use Rattle.mm_model.specs.KeptHistory.{kept_batches, kept_entries, kept_segments};
+    ghost use Rattle.mm_model.specs.Verdicts.{kept_batches, kept_entries, kept_segments};
 
     ghost Value = { History };
 
@@ -52,12 +52,10 @@ impl HistoryLists {
     ghost use Rattle.std.specs.Prelude.{◌≡◌, ◌++◌, [], ◌∷◌, true, false, length, nat_le, OnOk, OnErr};
     ghost use Rattle.mm_digest.specs.declared.variant.Variant.TheVariants.{Basic, Opt};
     ghost use Rattle.mm_module.specs.Batches.{batch_of};
-    ghost use Rattle.mm_model.specs.History.{Value, first_history, history_after_commit};
-    ghost use Rattle.mm_model.specs.HistoryWords.{values_of};
+    ghost use Rattle.mm_model.specs.History.{Value, first_history, history_after_commit, values_of};
     ghost use Rattle.mm_model.specs.Chains.{register_of};
-    ghost use Rattle.mm_model.specs.Verdicts.{is_last};
-    ghost use Rattle.mm_model.specs.Life.{is_empty, has_value};
-    ghost use Rattle.mm_model.specs.KeptHistory.{kept_batches, kept_segments};
+    ghost use Rattle.mm_model.specs.Verdicts.{is_last, kept_batches, kept_segments};
+    ghost use Rattle.mm_model.specs.Standing.{is_empty, has_value};
 
     /// The first history. Takes no memory.
     pub fn new(alloc: Global) -> HistoryLists

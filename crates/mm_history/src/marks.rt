@@ -1,11 +1,9 @@
 //! What a history comes to.
 
 ghost use Rattle.std.specs.Prelude.{◌≡◌};
-ghost use Rattle.mm_model.specs.Chains.{register_of};
-ghost use Rattle.mm_model.specs.ChainsWords.{own_values};
-ghost use Rattle.mm_model.specs.History.{extension_value};
-ghost use Rattle.mm_model.specs.HistoryWords.{values_of};
-ghost use Rattle.mm_model.specs.KeptHistory.{kept_batches, kept_entry, kept_entries};
+ghost use Rattle.mm_model.specs.Chains.{register_of, own_values};
+ghost use Rattle.mm_model.specs.History.{extension_value, values_of};
+ghost use Rattle.mm_model.specs.Verdicts.{kept_batches, kept_entry, kept_entries};
 
 use crate::known_digests::KnownDigests;
 use mm_digest::{Digest, Variant, extended, start, zero};
@@ -34,8 +32,8 @@ impl HistoryMarks {
     ghost use Rattle.mm_digest.specs.Messages.{start_digest_of, zero_bytes};
     ghost use Rattle.mm_module.specs.Batch.{size_of};
     ghost use Rattle.mm_module.specs.Batches.{batch_of};
-    ghost use Rattle.mm_model.specs.PlacesWords.{digest_of};
-    ghost use Rattle.mm_history.specs.Marks.{with_value, emptied_marks, closed_marks, linked_marks, grown_marks, opened_marks};
+    ghost use Rattle.mm_model.specs.Standing.{digest_of};
+    ghost use Rattle.mm_history.specs.Naming.{with_value, emptied_marks, closed_marks, linked_marks, grown_marks, opened_marks};
 
     /// Those of the first history.
     pub fn first(variant: Variant, id: u8) -> HistoryMarks

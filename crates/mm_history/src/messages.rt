@@ -7,7 +7,7 @@ ghost use Rattle.mm_digest.specs.Messages.{zero_bytes, anchored_message, extende
 ghost use Rattle.mm_module.specs.Batches.{batch_of};
 ghost use Rattle.mm_model.specs.Chains.{link_message, guard_message};
 ghost use Rattle.mm_model.specs.Messages.{form_messages, point_messages};
-ghost use Rattle.mm_history.specs.OfferMessages.{messages_at_place};
+ghost use Rattle.mm_history.specs.Naming.{messages_at_place};
 
 use crate::known_digests::KnownDigests;
 use crate::message::Message;

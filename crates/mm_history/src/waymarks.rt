@@ -5,10 +5,9 @@ ghost use Rattle.std.specs.Prelude.{◌≡◌, ℕ, List, true, take, length, If
 ghost use Rattle.std.specs.List.{AllByRecursion};
 ghost use Rattle.mm_module.specs.Meaning.{state_after};
 ghost use Rattle.mm_model.specs.History.{requests_of, items_of_all};
-ghost use Rattle.mm_model.specs.KeptHistory.{kept_segments};
-ghost use Rattle.mm_model.specs.Instance.{Instance};
-ghost use Rattle.mm_history.specs.Marks.{marks_of};
-ghost use Rattle.mm_history.specs.Waymarks.{AreWaymarks, EndsWithCurrent, IsBetween, IsStage, is_inside_batch, is_behind_all};
+ghost use Rattle.mm_model.specs.Verdicts.{kept_segments};
+ghost use Rattle.mm_model.specs.Chains.{Instance};
+ghost use Rattle.mm_history.specs.Naming.{marks_of, AreWaymarks, EndsWithCurrent, IsBetween, IsStage, is_inside_batch, is_behind_all};
 
 use crate::lists::HistoryLists;
 use crate::marks::HistoryMarks;

@@ -16,16 +16,13 @@ use Rattle.mm_seal.specs.declared.snapshot.PartsFault.TheVariants.{Form, Kind}
 use Rattle.mm_platform.specs.Standing.{Standing}
 use Rattle.mm_module.specs.Batch.{Batch}
 use Rattle.mm_module.specs.Meaning.{IsLawful, Meaning}
-use Rattle.mm_model.specs.ChainLaws.{trail_front}
+use Rattle.mm_model.specs.ListLaws.{trail_front, same_summaries}
 use Rattle.mm_model.specs.Chains.{link_message, summary_of, trail}
-use Rattle.mm_model.specs.DigestLaws.{same_summaries}
 use Rattle.mm_model.specs.History.{History, total_of}
 use Rattle.mm_model.specs.Messages.{AreMessagesIn, IsClear}
-use Rattle.mm_model.specs.Places.{IsPlaceOf}
-use Rattle.mm_model.specs.Standing.{IsRight, StandsFor, cell_of}
+use Rattle.mm_model.specs.Standing.{IsPlaceOf, IsRight, StandsFor, cell_of}
 use Rattle.mm_call.specs.CallPremises.{IsWithin}
-use Rattle.mm_move.specs.Cells.{moved_cell_of}
-use Rattle.mm_move.specs.Moves.{MovePromise}
+use Rattle.mm_move.specs.Cells.{moved_cell_of, MovePromise}
 use Rattle.mm_move.specs.Orders.{acceptance_in, acceptance_of, live_cell_from, right_ticket, ticket_by}
 use Rattle.mm_move.specs.Tickets.{TaggedTicket, TicketContent, summary_in, ticket_of, ticket_tag}
 use Rattle.mm_move.specs.declared.accepting.Accepted.{Accepted}
@@ -36,11 +33,10 @@ use Rattle.mm_move.specs.declared.link.Link.{Link}
 use Rattle.mm_move.specs.declared.ready.ReadyMove.{ReadyMove}
 use Rattle.mm_move.specs.declared.refusal.MoveRefusal.{MoveRefusal}
 use Rattle.mm_move.proofs.Above.{tickets_are_read}
-use Rattle.mm_life.specs.PartsElsewhere.{PartsAreRefusedElsewhere}
-use Rattle.mm_recovery.specs.SlotFit.{IsSnapshotAt}
-use Rattle.mm_sides.specs.Roles.{Live}
-use Rattle.mm_worlds.specs.Handed.{Handed}
-use Rattle.mm_worlds.specs.Platforms.{key_of, role_of}
+use Rattle.mm_life.specs.Premises.{PartsAreRefusedElsewhere}
+use Rattle.mm_recovery.specs.HostStanding.{IsSnapshotAt}
+use Rattle.mm_sides.specs.BothSides.{Live}
+use Rattle.mm_worlds.specs.Premises.{Handed, key_of, role_of}
 use Rattle.mm_worlds.proofs.Above.{Enters, HoldsCell, HoldsOwn, IsAwaited, IsLiveCell, LeftFor, MoveOutcome, StandsInOrder, WorldLaws}
 use Rattle.mm_worlds.proofs.Above.{again_ready, anchor_sized, basic_laws, ends, entered_cell, enters_ready, good, instance_at, is_live}
 use Rattle.mm_worlds.proofs.Above.{is_here as held_here}
@@ -97,7 +93,8 @@ module _ (meaning : Meaning) (link : Link) (key ticket : List ℕ) where
       let right = passes (not (bytes_eq tagged.tag (ticket_tag link.key tagged.ticket))) _ _ content spelled.1 in
       let same : tagged.ticket ≡ content = (let both = right.1 in cc) in
       let s = (tickets_are_read Basic meaning.id ticket tagged).0 is in
-      subst (λ (x : TicketContent). IsRight (instance_at Basic meaning link key) (sealed_snapshot_of key x.content) x.content) same (record {
+      subst (λ (x : TicketContent). IsRight (instance_at Basic meaning link key) (sealed_snapshot_of key x.content) x.content) same
+      (record {
         formed = s.is.ticket.content;
         sealed = refl;
         variant = s.variant_is;

@@ -7,16 +7,13 @@ use Rattle.mm_evidence.proofs.Above.{clash_or}
 use Rattle.mm_host.specs.Sessions.{IsSession}
 use Rattle.mm_life.specs.OneStore.{KeepsStore}
 use Rattle.mm_life.specs.Stages.{Holds, PartLeads, Program, session_on}
-use Rattle.mm_move.specs.Cells.{moved_cell_of}
-use Rattle.mm_move.specs.Moves.{MovePromise}
+use Rattle.mm_move.specs.Cells.{moved_cell_of, MovePromise}
 use Rattle.mm_move.specs.Orders.{acceptance_in, invitation_in, retirement_in, waiting_for}
 use Rattle.mm_move.specs.declared.link.Link.{Link}
-use Rattle.mm_sides.specs.Roles.{Blank, Live, Retired, Role, Waiting}
+use Rattle.mm_sides.specs.BothSides.{Blank, Live, Retired, Role, Waiting}
 use Rattle.mm_store.specs.StoreStanding.{StoreStanding}
-use Rattle.mm_worlds.specs.Crossing.{SiteStanding, accepted_at, both_sites, invited_at, retired_at, session_at, two_platforms}
-use Rattle.mm_worlds.specs.Platforms.{instance_of, role_of}
-use Rattle.mm_worlds.specs.Premises.{first_handed, world_messages}
-use Rattle.mm_worlds.specs.Worlds.{IsWorldLife, World, WorldStage}
+use Rattle.mm_worlds.specs.Journey.{SiteStanding, accepted_at, both_sites, invited_at, retired_at, session_at, two_platforms}
+use Rattle.mm_worlds.specs.Premises.{instance_of, role_of, first_handed, world_messages, IsWorldLife, World, WorldStage}
 use Rattle.mm_worlds.proofs.Above.{all_or}
 use Rattle.mm_honest_worlds.specs.Arrivals.{EmptiesRecords, PutsArrival}
 use Rattle.mm_honest_worlds.specs.Carrying.{CarriesOver, site_over}

@@ -9,7 +9,7 @@ use Rattle.mm_platform.specs.Standing.{Standing}
 use Rattle.mm_module.specs.Batch.{Batch}
 use Rattle.mm_module.specs.Meaning.{IsLawful, Meaning}
 use Rattle.mm_model.specs.History.{History, first_history, requests_of}
-use Rattle.mm_model.specs.Instance.{Instance}
+use Rattle.mm_model.specs.Chains.{Instance}
 use Rattle.mm_model.specs.ListLaws.{each_left, each_right, each_self}
 use Rattle.mm_model.specs.Messages.{AreMessagesIn, IsClear}
 use Rattle.mm_model.specs.Standing.{StandsFor}
@@ -22,25 +22,20 @@ use Rattle.mm_move.specs.declared.link.Link.{Link}
 use Rattle.mm_move.specs.declared.refusal.MoveRefusal.{MoveRefusal}
 use Rattle.mm_recovery.specs.FirstStart.{first_slots}
 use Rattle.mm_recovery.proofs.Above.{is_first}
-use Rattle.mm_recovery.specs.SlotFit.{FitsBy, FitsHistory, IsSnapshotAt}
+use Rattle.mm_recovery.specs.HostStanding.{FitsBy, FitsHistory, IsSnapshotAt}
 use Rattle.mm_store.specs.PendingRecord.{PendingRecord}
-use Rattle.mm_store.specs.Slots.{Slots, slot_front}
-use Rattle.mm_store.specs.StoreStanding.{StoreStanding}
-use Rattle.mm_life.specs.DeedHistory.{IsNoCall}
+use Rattle.mm_store.specs.StoreStanding.{Slots, slot_front, StoreStanding}
+use Rattle.mm_life.specs.Premises.{IsNoCall, PartsAreRefusedElsewhere, call_batches}
 use Rattle.mm_life.specs.Deeds.{Calls, Checkpoints, Deed, DeedLeads, Extends, LosesPower}
 use Rattle.mm_life.specs.HonestLife.{BeginsOver, LeavesNoChance}
-use Rattle.mm_life.specs.PartsElsewhere.{PartsAreRefusedElsewhere}
-use Rattle.mm_life.specs.Premises.{call_batches}
 use Rattle.mm_life.specs.Stages.{Does, Holds, LifePart, PartLeads, Program, part_calls}
 use Rattle.mm_life.proofs.Above.{AreListed, basic_life, part_goes}
-use Rattle.mm_sides.specs.Roles.{Blank, Live, Retired, Role, Waiting}
-use Rattle.mm_worlds.specs.Handed.{Handed}
+use Rattle.mm_sides.specs.BothSides.{Blank, Live, Retired, Role, Waiting}
+use Rattle.mm_worlds.specs.Premises.{Handed, cell_bytes, has_same_cell, instance_of, key_of, role_in, role_of, AreHonest, IsHonest}
+use Rattle.mm_worlds.specs.Premises.{asked_messages, calls_at, calls_in, first_handed, handed_after, handed_at_end, messages_from}
+use Rattle.mm_worlds.specs.Premises.{world_messages, Accepts, Invites, IsWorldLife, Lives, Retires, World, WorldPart, WorldPartLeads}
+use Rattle.mm_worlds.specs.Premises.{WorldStage, world_after, world_at_end}
 use Rattle.mm_worlds.specs.OneWorld.{WorldFollows, WorldPartSteps}
-use Rattle.mm_worlds.specs.Platforms.{cell_bytes, has_same_cell, instance_of, key_of, role_in, role_of}
-use Rattle.mm_worlds.specs.Premises.{AreHonest, IsHonest, asked_messages, calls_at, calls_in, first_handed, handed_after}
-use Rattle.mm_worlds.specs.Premises.{handed_at_end, messages_from, world_messages}
-use Rattle.mm_worlds.specs.Worlds.{Accepts, Invites, IsWorldLife, Lives, Retires, World, WorldPart, WorldPartLeads, WorldStage, world_after}
-use Rattle.mm_worlds.specs.Worlds.{world_at_end}
 use Rattle.mm_worlds.proofs.Above.{HoldsCell, IsLiveCell, StandsInOrder, WorldLaws, basic_laws, changed_at, held_told}
 use Rattle.mm_worlds.proofs.Above.{here_changed, instance_at, left_elsewhere, reading_of, role_held, same_number, somewhere, starts}
 use Rattle.mm_worlds.proofs.Above.{stepped as world_stepped}

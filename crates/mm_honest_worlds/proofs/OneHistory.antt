@@ -8,19 +8,17 @@ use Rattle.mm_seal.specs.declared.snapshot.Place.TheVariants.{Basic as InBasic, 
 use Rattle.mm_platform.specs.Standing.{Standing}
 use Rattle.mm_module.specs.Batch.{Batch}
 use Rattle.mm_module.specs.Meaning.{Meaning}
-use Rattle.mm_model.specs.DigestLaws.{same_summaries}
+use Rattle.mm_model.specs.ListLaws.{same_summaries}
 use Rattle.mm_model.specs.History.{History, total_of}
-use Rattle.mm_model.specs.Instance.{Instance}
-use Rattle.mm_model.specs.InstanceWords.{basic_instance}
+use Rattle.mm_model.specs.Chains.{Instance, basic_instance}
 use Rattle.mm_model.specs.Messages.{IsClear}
-use Rattle.mm_model.specs.Places.{IsPlaceOf, NamesPosition}
-use Rattle.mm_model.specs.Standing.{StandsFor, cell_of}
+use Rattle.mm_model.specs.Standing.{IsPlaceOf, NamesPosition, StandsFor, cell_of}
 use Rattle.mm_call.specs.CallPremises.{IsWithin}
 use Rattle.mm_move.specs.Cells.{moved_cell_of, moved_spelling}
 use Rattle.mm_move.specs.declared.cell.MovedCell.TheVariants as moved
 use Rattle.mm_move.proofs.Above.{moved_back}
-use Rattle.mm_store.specs.Slots.{Slots}
-use Rattle.mm_recovery.specs.SlotFit.{FitsHistory, IsSnapshotAt}
+use Rattle.mm_store.specs.StoreStanding.{Slots}
+use Rattle.mm_recovery.specs.HostStanding.{FitsHistory, IsSnapshotAt}
 use Rattle.mm_recovery.proofs.Above.{fits_on}
 use Rattle.mm_honest_worlds.specs.GoingOn.{StoreFits}
 use Rattle.mm_honest_worlds.specs.HostStores.{Arrived, HostStore, LeftAs, Unknown}

@@ -4,13 +4,11 @@ use Rattle.std.proofs.Common.{◌≡◌, ◌∙◌, ◌≤◌, ◌+◌, ◌%◌,
 use Rattle.std.proofs.Common.{inl, inr, length, take}
 use Rattle.std.proofs.Math.Seq.{take-nil}
 use Rattle.std.proofs.lemmas.List.{take_all}
-use Rattle.mm_base.specs.Lines.{IsLineFront}
+use Rattle.mm_base.specs.Input.{IsLineFront}
 use Rattle.mm_bytes.specs.Limits.{last_position, longest_request}
 use Rattle.mm_move.specs.declared.accepting.Accepted.{Accepted}
-use Rattle.mm_store.specs.Calls.{WritesSlot, slots_with_bytes}
+use Rattle.mm_store.specs.StoreStanding.{WritesSlot, slots_with_bytes, Slots, longest_slot, slots_with, StoreStanding}
 use Rattle.mm_store.specs.PendingRecord.{PendingRecord, ReadsPendingRecord, pending_spelling}
-use Rattle.mm_store.specs.Slots.{Slots, longest_slot, slots_with}
-use Rattle.mm_store.specs.StoreStanding.{StoreStanding}
 use Rattle.mm_store.specs.declared.fault.StoreFault.{StoreFault}
 use Rattle.mm_store.proofs.Above.{longest_slot-is, reads_none-short}
 use Rattle.mm_recovery.proofs.Above.{length-pending_spelling}

@@ -1,7 +1,7 @@
 //! What a host puts into its store when a module arrives.
 
 ghost use Rattle.std.specs.Prelude.{◌<◌, ◌≤◌, IfOk, length};
-ghost use Rattle.mm_base.specs.Lines.{IsLineFront};
+ghost use Rattle.mm_base.specs.Input.{IsLineFront};
 ghost use Rattle.mm_bytes.specs.Limits.{last_position, longest_request};
 ghost use Rattle.mm_store.specs.declared.store.TheConstants.{LONGEST_SLOT};
 ghost use Rattle.mm_honest_worlds.specs.Arrivals.{EmptiesRecords, PutsArrival};

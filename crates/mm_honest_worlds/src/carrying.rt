@@ -2,9 +2,9 @@
 //! on each, with a session on either side.
 
 ghost use Rattle.std.specs.Prelude.{IfOk};
-ghost use Rattle.mm_base.specs.Lines.{IsLineFront};
+ghost use Rattle.mm_base.specs.Input.{IsLineFront};
 ghost use Rattle.mm_bytes.specs.Limits.{longest_request};
-ghost use Rattle.mm_worlds.specs.Crossing.{both_sites, site_standing};
+ghost use Rattle.mm_worlds.specs.Journey.{both_sites, site_standing};
 ghost use Rattle.mm_honest_worlds.specs.Arrivals.{PutsArrival};
 ghost use Rattle.mm_honest_worlds.specs.Carrying.{CarriesOver};
 

@@ -1,21 +1,74 @@
+-- The calls that a session makes, one after another, whatever the slots hold. With it: where the
+-- output failed; where there is a position for each request, none is refused as Full.
+use Rattle.std.specs.Prelude.{IsSome}
+use Rattle.mm_model.specs.declared.refusal.Refusal.TheVariants.{Full}
+use Rattle.mm_model.specs.declared.refusal.Refusal.TheVariants as refusal
+use Rattle.mm_schedule.specs.Replies.{IsBatchStep}
+use Rattle.mm_schedule.specs.declared.reply.Reply.TheVariants.{Told}
+use Rattle.mm_play.specs.Headline.{IsFrontOf}
+use Rattle.mm_store.specs.declared.fault.StoreFault.TheVariants as store
+use Rattle.mm_recovery.specs.declared.fault.HostFault.TheVariants as host
+use Rattle.mm_host.specs.AnySlots.{CallsInTurn}
+use Rattle.mm_host.specs.Continuation.{IsToldInPart, last_bytes_in}
+use Rattle.mm_host.specs.Sessions.{SessionGoesOn, ServesAllLines}
+use Rattle.mm_host.proofs.Below.{◌≡◌, ◌≢◌, ◌∙◌, ◌⊎◌, ℕ, List, [], Result, Ok, Err, refl, ap, inl, inr, Meaning, One, Answer, Refusal}
+use Rattle.mm_host.proofs.Below.{StoreFault, HostFault, Resumed, Start, Answered, SessionFault, Host, Lines, WriteFault, SendsReply}
+use Rattle.mm_host.proofs.Below.{reply_text, refusal_text, told_cause, RequestMayBeCommitted, fault_of, store_fault_as, answer_reply, ◌∷◌}
+use Rattle.mm_host.proofs.Below.{◌++◌, Option, None, Some, sym, append_assoc, lines_of, Variant, Standing, ReadsSlot, StoreStanding}
+use Rattle.mm_host.proofs.Below.{PendingRecord, Slots, slot_front, first_offer, offer_slot, offer_after, IsCall, IsInHand}
+use Rattle.mm_host.proofs.Below.{first_served_call, served_calls_in, HostGoesAfterFinding, HostGoesAfterOffer, result_of_start, snapshot_at}
+use Rattle.mm_host.proofs.Below.{SessionPlace, ServedCall, ServesCalls, SessionGoesAfterResume, BytesBeginWith, IsSession}
+use Rattle.mm_host.proofs.Below.{SessionStopsAtOnce, IsWaiting, Saw, one_waiting, saw_two, AreAmong, requests_with, served_lines}
+use Rattle.mm_host.proofs.Below.{HostStanding, host_standing, SessionStanding, host_of, ◌+◌, ◌-◌, ◌≤◌, Bool, true, false, length, arith}
+use Rattle.mm_host.proofs.Below.{length-append, last_position, Batch, Instance, History, total_of, ContinuesTo, CallsRunOver}
+use Rattle.mm_host.proofs.Lines.{answered_call, asks, by_end, by_told, IsRead, line_tries, lines_in, never_refused, TellsCall, tried_answer}
+use Rattle.mm_host.proofs.Lines.{next_line, read_of, tells_call, Tries, length-served_lines}
+
+-- Where the output failed: of which line a front is out, and that it is true.
+
+-- the line of what came isn't empty, and a front of it is out
+pub front_of : (came : Result Resumed HostFault) (sent : List ℕ) (fault : SessionFault) → SendsReply came sent (Err fault)
+    → fault ≡ Lines WriteFault → (reply_text came ≢ []) × IsFrontOf sent (reply_text came)
+front_of (Ok it) sent fault (inl s) is = let clash : Err fault ≡ Ok it = s.1 in absurd (cc)
+front_of (Err why) sent fault (inl s) is = let clash : Err fault ≡ Err (Host why) = s.1 in absurd (cc)
+front_of came sent fault (inr s) is = (s.1, s.2)
+
+store_text : (why : StoreFault) → reply_text (Err (store_fault_as why)) ≡ []
+store_text store.Memory = refl
+store_text store.Failed = refl
+
+-- nothing is told of a store that failed
+pub store_untold : (why : StoreFault) (came : Result Resumed HostFault) (sent : List ℕ) (fault : SessionFault)
+    → came ≡ Err (store_fault_as why) → SendsReply came sent (Err fault) → fault ≡ Lines WriteFault → ⊥
+store_untold why came sent fault e says is = (front_of came sent fault says is).0 (ap reply_text e ∙ store_text why)
+
+module _ (meaning : Meaning) (hand : List ℕ → Type 0) (requests after : List (List ℕ)) where
+  -- a refusal that is told leaves the list
+  refused_leaves : (why : Refusal) → (after ≡ requests) ⊎ IsSome (fault_of why) → refusal_text (told_cause why) ≢ [] → after ≡ requests
+  refused_leaves why (inl same) some = same
+  refused_leaves (refusal.Device fault) (inr has) some = absurd (some refl)
+  refused_leaves _ (inr has) some = absurd (cc)
+
+  by_front : (came : Result Resumed HostFault) (sent : List ℕ)
+      → ((answer : Answer) → came ≡ Ok (Answered answer) → (request : List ℕ) × hand request
+      × IsBatchStep meaning requests (One request) (answer_reply answer) after)
+      → (after ≡ requests) ⊎ RequestMayBeCommitted came → reply_text came ≢ [] → IsFrontOf sent (reply_text came)
+      → IsToldInPart meaning hand sent requests after
+  by_front (Ok (Answered answer)) sent steps only some front =
+      let x = steps answer refl in inl (x.0, answer, x.1, x.2, front)
+  by_front (Ok (Start first)) sent steps only some front = absurd (some refl)
+  by_front (Err (host.Refused why)) sent steps only some front = inr (refused_leaves why only some, why, front)
+  by_front (Err _) sent steps only some front = absurd (some refl)
+
+  pub told_in_part : (came : Result Resumed HostFault) (sent : List ℕ) (fault : SessionFault) → SendsReply came sent (Err fault)
+      → ((answer : Answer) → came ≡ Ok (Answered answer) → (request : List ℕ) × hand request
+      × IsBatchStep meaning requests (One request) (answer_reply answer) after)
+      → (after ≡ requests) ⊎ RequestMayBeCommitted came → fault ≡ Lines WriteFault → IsToldInPart meaning hand sent requests after
+  told_in_part came sent fault says steps only is =
+      let f = front_of came sent fault says is in by_front came sent steps only f.0 f.1
+
 -- The calls that a session makes, one after another, whatever the slots hold; and the requests that it makes are among what waited
 -- and the lines of its input.
-use Rattle.mm_host.proofs.Below.{◌≡◌, ◌∙◌, ℕ, List, [], ◌∷◌, ◌++◌, Option, None, Some, Result, Ok, Err, refl, sym, ap, inl, inr}
-use Rattle.mm_host.proofs.Below.{append_assoc, lines_of, Variant, Standing, Meaning, Refusal, StoreFault, ReadsSlot, StoreStanding}
-use Rattle.mm_host.proofs.Below.{PendingRecord, Slots, slot_front, HostFault, SessionFault, Host, Resumed, Start, Answered, first_offer}
-use Rattle.mm_host.proofs.Below.{offer_slot, offer_after, IsCall, IsInHand, first_served_call, served_calls_in, store_fault_as}
-use Rattle.mm_host.proofs.Below.{HostGoesAfterFinding, HostGoesAfterOffer, result_of_start, SendsReply, reply_text, snapshot_at}
-use Rattle.mm_host.proofs.Below.{SessionPlace, ServedCall, ServesCalls, SessionGoesAfterResume, BytesBeginWith, IsSession}
-use Rattle.mm_host.proofs.Below.{SessionStopsAtOnce, IsWaiting, Saw, one_waiting, saw_two, AreAmong, requests_with, served_lines, Answer}
-use Rattle.mm_host.proofs.Below.{HostStanding, host_standing, SessionStanding, host_of}
-use Rattle.mm_recovery.specs.declared.fault.HostFault.TheVariants as host
-use Rattle.mm_host.specs.Sessions.{SessionGoesOn, ServesAllLines}
-use Rattle.mm_host.proofs.Below.{Lines, WriteFault}
-use Rattle.mm_host.specs.Continuation.{last_bytes_in}
-use Rattle.mm_host.proofs.InPart.{front_of, store_untold}
-use Rattle.mm_host.proofs.Lines.{answered_call, asks, by_end, by_told, IsRead, line_tries, lines_in, never_refused, TellsCall}
-use Rattle.mm_host.proofs.Lines.{tried_answer, next_line, read_of, tells_call, Tries}
-use Rattle.mm_host.specs.Refusals.{CallsInTurn}
 
 -- How a session ends behind its calls: it rests, and isn't refused; or a request in hand is tried, and what comes ends it.
 pub data Ends (variant : Variant) (meaning : Meaning) (at final : Standing) (offer : List ℕ) (hand : List ℕ → Type 0)
@@ -266,3 +319,59 @@ module _ {variant : Variant} {meaning : Meaning} {old new : SessionStanding} {re
       let r = s.resumes in
       let b = begun_somehow variant meaning old.standing s.middle.standing r.waiting s.begun r.middle s.middle.kept r.goes in
       record { offer = b.0; waiting = b.1; chain = chain_by b.0 b.1 b.2 s.goes }
+
+-- Where there is a position for each request, none is refused as Full.
+
+-- each answer adds one request at most
+step_most : (meaning : Meaning) (again : Bool) (requests after : List (List ℕ)) (line : List ℕ) (before : ℕ) (outputs : List (List ℕ))
+    → IsBatchStep meaning requests (One line) (Told again before outputs) after → length after ≤ length requests + 1
+step_most meaning false requests after line before outputs s =
+    omega (arith, ap (λ (xs : List (List ℕ)). length xs) s.grown, length-append requests (line ∷ []))
+step_most meaning true requests after line before outputs s = omega (arith, ap (λ (xs : List (List ℕ)). length xs) s.2)
+
+runs_most : (meaning : Meaning) (told : List ServedCall) (requests after : List (List ℕ)) → CallsRunOver meaning requests told after
+    → length after ≤ length requests + length told
+runs_most meaning [] requests after r = omega (arith, ap (λ (xs : List (List ℕ)). length xs) r)
+runs_most meaning (c ∷ told) requests after r =
+    omega (
+      arith,
+      step_most meaning c.answer.again requests r.0 c.line (c.answer.position - 1) (c.answer.output ∷ []) r.1,
+      runs_most meaning told r.0 after r.2,
+    )
+
+module _ {variant : Variant} {meaning : Meaning} {old new : SessionStanding} {result : Result Unit SessionFault}
+    (s : IsSession variant meaning old new result) (slots : Slots)
+    (waiting : Option PendingRecord)
+    (slots_told : old.kept.slots ≡ Some slots) (w : IsWaiting (slot_front slots 2) (slot_front slots 3) waiting)
+    {all others : List (List ℕ)} {asked : List Batch} {i : Instance} (y : History) (requests : List (List ℕ))
+    (among : AreAmong (served_calls_in waiting s.goes) (IsInHand waiting s.goes) requests)
+    (room : total_of y.batches + length requests ≤ last_position)
+    (c : ContinuesTo all others asked i y waiting new.standing new.kept (served_calls_in waiting s.goes) (IsInHand waiting s.goes)
+    (last_bytes_in s.goes) result) where
+  -- the requests at the end are those that were told, with none in hand
+  few : result ≡ Err (Host (host.Refused Full)) → length c.runs.requests ≡ last_position
+  few full = elim c.runs.committed [
+    | inl same ↦ let used : total_of c.runs.after.batches ≡ last_position = rw full at c.refuses in
+        omega (arith, used, ap (λ (xs : List (List ℕ)). length xs) same)
+    | inr untold ↦ let clash : false ≡ true = rw full at untold.untold in absurd (cc)
+  ]
+
+  by_ends : {at : Standing} {offer : List ℕ}
+      → Ends variant meaning at new.standing offer (IsInHand waiting s.goes) (last_bytes_in s.goes) result
+      → result ≡ Err (Host (host.Refused Full)) → ⊥
+  by_ends (rests same never unwritten) full = never Full full
+  by_ends (stops request h came t fault says ends) full =
+      let first = among.in_hand request h in
+      omega (
+        arith,
+        few full,
+        room,
+        runs_most i.meaning (served_calls_in waiting s.goes) _ c.runs.requests c.runs.run,
+        length-served_lines (served_calls_in waiting s.goes),
+        length-append (served_lines (served_calls_in waiting s.goes)) (request ∷ []),
+        length-append (served_lines (served_calls_in waiting s.goes) ++ request ∷ []) first.0,
+        ap (λ (xs : List (List ℕ)). length xs) first.1,
+      )
+
+  pub unless_full : result ≡ Err (Host (host.Refused Full)) → ⊥
+  unless_full full = by_ends (chain_of s slots waiting slots_told w).ends full

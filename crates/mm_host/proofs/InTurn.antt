@@ -8,13 +8,13 @@ use Rattle.mm_host.proofs.Below.{right_is, one_content, IsBatchStep, PendingReco
 use Rattle.mm_host.proofs.Below.{IsCall, CallsRunOver, answer_reply, IsSnapshotAt, ServedCall, served_lines, one_more, IsGrownBy, IsSame}
 use Rattle.mm_host.proofs.Below.{Met, holds_issued, SessionFault, IsCallOnCourse}
 use Rattle.std.proofs.lemmas.Slice.Eq.{bytes_eq-Decides}
-use Rattle.mm_model.specs.Fit.{IsFit}
-use Rattle.mm_call.specs.HistoryGrowth.{HistoryGrows, kept, grown}
+use Rattle.mm_model.specs.Moves.{IsFit}
+use Rattle.mm_call.specs.CallFinding.{HistoryGrows, kept, grown}
 use Rattle.mm_host.proofs.CallsMade.{Chain, Ends, rests, stops}
 use Rattle.mm_host.proofs.Leading.{grown_more, Laws, Makes, met_end, met_on, push_batches, reach_same, reach_then, Reaches, Shows}
 use Rattle.mm_host.proofs.Leading.{steps_again, steps_fresh}
 use Rattle.mm_host.proofs.Lines.{asks, fails}
-use Rattle.mm_host.specs.Refusals.{CallsInTurn}
+use Rattle.mm_host.specs.AnySlots.{CallsInTurn}
 
 -- what a right offer says
 said_of : (i : Instance) (bytes : List ℕ) (content : Content) → IsRight i bytes content → right_content i bytes ≡ Some content

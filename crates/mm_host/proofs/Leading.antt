@@ -12,7 +12,7 @@ use Rattle.mm_host.proofs.Below.{values_in, IsOutside, AreItems, has_value-appen
 use Rattle.mm_host.proofs.Below.{digest_of, total-nil, basic_met, basic_content}
 use Rattle.mm_model.specs.History.{items_of_all}
 use Rattle.mm_host.proofs.Below.{◌-◌, length, length-append}
-use Rattle.mm_schedule.specs.Machine.{IsTold}
+use Rattle.mm_schedule.specs.Replies.{IsTold}
 use Rattle.mm_seal.specs.declared.snapshot.Place.{Place}
 
 -- What the register shows at the very end, behind the items that count where the platform stands for a history.

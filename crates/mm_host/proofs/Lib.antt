@@ -6,15 +6,9 @@ mod Counting
 mod Putting
 mod Leading
 mod OptLeading
-mod InPart
 mod CallsMade
 mod InTurn
 mod LineStep
-mod Made
 mod SessionRuns
-mod Settling
 mod RunningOnce
-mod ByDigests
 mod NextRefused
-mod Continues
-mod Room

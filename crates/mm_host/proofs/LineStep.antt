@@ -11,19 +11,18 @@ use Rattle.mm_host.proofs.Below.{refusal_told, CallsRunOver, [], issued_bytes, i
 use Rattle.mm_host.proofs.Below.{IsCall, last_position, one_content, one_more, IsSame, subst, ◌≤◌, ◌<◌, false, take, nat_tests, StepFault}
 use Rattle.mm_host.proofs.Below.{fault_of, HostGoesAfterAsk, fits_on, found_full, grows, RefusesAs, Host}
 use Rattle.std.proofs.lemmas.Bool.{cases_lt}
-use Rattle.mm_call.specs.HistoryGrowth.{HistoryGrows}
-use Rattle.mm_call.specs.HistoryGrowth as coming
+use Rattle.mm_call.specs.CallFinding.{HistoryGrows}
+use Rattle.mm_call.specs.CallFinding as coming
 use Rattle.mm_model.specs.declared.refusal.Refusal.TheVariants as refusal
 use Rattle.mm_store.specs.declared.fault.StoreFault.TheVariants as fault
 use Rattle.mm_recovery.specs.declared.fault.HostFault.TheVariants as host
 use Rattle.mm_host.proofs.InTurn.{May, met_between, met_last, StandsIn, stepped_by}
 use Rattle.mm_host.proofs.Lines.{never_stored}
 use Rattle.mm_host.proofs.Leading.{Laws, Reaches}
-use Rattle.mm_host.proofs.Settling.{answers_of, broken_refused, came_by, CameTo, IsSettledAt, refused_in, refused_last, refused_with}
-use Rattle.mm_host.proofs.Settling.{settled_by, went_first}
+use Rattle.mm_host.proofs.Putting.{answers_of, broken_refused, came_by, CameTo, IsSettledAt, refused_in, refused_last, refused_with}
+use Rattle.mm_host.proofs.Putting.{settled_by, went_first, IsNext, IsPut, fits_next, fits_room, full_fits, put_next, torn_fits, waits_next}
 use Rattle.mm_host.proofs.Below.{HostGoesAfterRecord, Enters}
 use Rattle.mm_host.proofs.Below.{HostStanding, host_standing}
-use Rattle.mm_host.proofs.Putting.{IsNext, IsPut, fits_next, fits_room, full_fits, put_next, torn_fits, waits_next}
 
 module _ {all others : List (List ℕ)} {asked : List Batch} {i : Instance} {final : Standing} (laws : Laws all others asked i final) where
   -- What is known of the history after a call that was answered, where its snapshot is offered for these next.

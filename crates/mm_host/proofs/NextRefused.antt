@@ -17,21 +17,20 @@ use Rattle.mm_base.specs.InputLaws.{lines_of-unbroken}
 use Rattle.mm_base.specs.declared.replay_fault.ReplayFault.TheVariants.{ReadFault}
 use Rattle.mm_seal.specs.Cell.{cell_spelling}
 use Rattle.mm_seal.specs.CellLaws.{cell_spelling-injective}
-use Rattle.mm_seal.specs.ReadingLaws.{spells_read}
+use Rattle.mm_seal.specs.FieldLaws.{spells_read}
 use Rattle.mm_seal.specs.Snapshot.{Snapshot, variant_of}
 use Rattle.mm_seal.specs.declared.snapshot.Place.{Place as Placed}
 use Rattle.mm_seal.specs.declared.snapshot.PartsFault.{PartsFault}
 use Rattle.mm_seal.specs.declared.snapshot.PartsFault.TheVariants.{Form, Kind}
 use Rattle.mm_model.specs.Verdicts.{verdict_by_digests}
-use Rattle.mm_call.specs.CallFinding.{CallFinding, finding_by_verdict}
-use Rattle.mm_call.specs.Order.{check_of_offer}
+use Rattle.mm_call.specs.CallFinding.{CallFinding, finding_by_verdict, check_of_offer}
 use Rattle.mm_call.specs.Standing.{cell_at, instance_by}
 use Rattle.mm_model.specs.declared.verdict.Verdict.{Verdict}
 use Rattle.mm_recovery.specs.declared.fault.HostFault.TheVariants as host
 use Rattle.mm_store.specs.declared.fault.StoreFault.TheVariants as store
-use Rattle.mm_host.specs.Refusals.{IsNext}
+use Rattle.mm_host.specs.AnySlots.{IsNext}
 use Rattle.mm_host.specs.Sessions.{SessionGoesOn, ServesAllLines}
-use Rattle.mm_host.proofs.ByDigests.{call_leaves, calls_leave}
+use Rattle.mm_host.proofs.Turning.{call_leaves, calls_leave}
 use Rattle.mm_host.proofs.CallsMade.{Begun, begun_told, failed, first_by, last_offer, repeats, served_calls, starts}
 use Rattle.mm_host.proofs.Lines.{asks, by_told, fails, IsRead, length-served_lines, line_tries, lines_in, next_line, read_of, Tries}
 use Rattle.mm_host.proofs.RunningOnce.{by_fault}

@@ -10,16 +10,13 @@ use Rattle.mm_host.proofs.Below.{alike_commit, clean_open, issued_alike, names_a
 use Rattle.mm_host.proofs.Below.{Hands, hands, IsClear, AreNoGuards, flag_kept, pushed_open, shown_front, PendingRecord, one_more, Met}
 use Rattle.mm_host.proofs.Below.{IsGrownBy, opt_met, opt_met_idle, opt_grown, issued_in_opt, ◌⊎◌, ◌≤◌, last_position, not_lost}
 use Rattle.mm_seal.specs.declared.snapshot.Place.{Place}
-use Rattle.mm_model.specs.History.{items_of_all}
+use Rattle.mm_model.specs.History.{items_of_all, DeviceStep}
 use Rattle.mm_model.specs.ListLaws.{each_left}
-use Rattle.mm_model.specs.HistoryLaws.{length-batches_in}
-use Rattle.mm_model.specs.SegmentLaws.{no_segments}
+use Rattle.mm_model.specs.SegmentLaws.{length-batches_in, no_segments}
 use Rattle.std.specs.Option.{option_map}
-use Rattle.mm_model.specs.Steps.{DeviceStep}
-use Rattle.mm_call.specs.CallOutcome.{call_outcome, state_seen}
-use Rattle.mm_call.specs.Courses.{walk, has_close}
-use Rattle.mm_call.specs.CallFindingWords.{finding_unless_wanting, is_fresh}
-use Rattle.mm_call.specs.AlongLaws.{opt_closes}
+use Rattle.mm_call.specs.CallOutcome.{call_outcome, state_seen, walk, has_close}
+use Rattle.mm_call.specs.CallFinding.{finding_unless_wanting, is_fresh}
+use Rattle.mm_call.specs.WalkLaws.{opt_closes}
 use Rattle.mm_host.proofs.Leading.{Laws, Makes, names_none, push_batches, Reaches, ShowsAt}
 
 none_of : {A : Type 0} (xs ys : List A) → xs ++ ys ≡ [] → (xs ≡ []) × (ys ≡ [])

@@ -14,28 +14,27 @@ use Rattle.mm_host.proofs.Below.{agrees_is, foreign_may, is_agrees, counted_open
 use Rattle.mm_host.proofs.Below.{foreign_all, holds_made, foreign_messages, history_with_values, taking_is, names_alike, shown_back}
 use Rattle.mm_host.proofs.Below.{shown_front, shown_shut, MayStart, RunsOnceFrom, not_lost, was_powered, append-nil, SessionRunsOnce}
 use Rattle.mm_host.proofs.Below.{counted_part, Answered, Lines, WriteFault, answer_reply, batch_answer_of}
-use Rattle.mm_call.specs.HistoryGrowth as growth
-use Rattle.mm_schedule.specs.Machine.{IsBatchStep}
+use Rattle.mm_call.specs.CallFinding as growth
+use Rattle.mm_schedule.specs.Replies.{IsBatchStep}
 use Rattle.mm_host.proofs.Below.{SessionStanding, session_standing}
 use Rattle.mm_model.specs.declared.refusal.Refusal.TheVariants as refusal
 use Rattle.mm_store.specs.declared.fault.StoreFault.TheVariants as fault
 use Rattle.mm_recovery.specs.declared.fault.HostFault.TheVariants as host
 use Rattle.mm_host.proofs.Leading.{Laws, Reaches, basic_laws}
-use Rattle.mm_host.proofs.CallsMade.{Ends, among_input, calls_split, chain_of, rests, stops}
+use Rattle.mm_host.proofs.CallsMade.{Ends, among_input, calls_split, chain_of, rests, stops, store_untold, told_in_part}
 use Rattle.mm_host.proofs.InTurn.{AfterTurns, May, MindsNothing, StandsIn, calls_reach, ends_reach, met_last, pending_for, turns}
 use Rattle.mm_host.proofs.InTurn.{chain_reaches}
 use Rattle.mm_host.proofs.SessionRuns.{line_committed, runs_to, same_requests}
-use Rattle.mm_host.proofs.InPart.{store_untold, told_in_part}
 use Rattle.mm_host.proofs.Leading.{steps_again, steps_fresh}
 use Rattle.mm_host.specs.Continuation.{last_bytes_in}
 use Rattle.mm_host.proofs.Lines.{asks, fails, never_refused, never_stored, TellsCall, told_refused}
 use Rattle.mm_digest.specs.Messages.{extended_digest_of}
-use Rattle.mm_platform.specs.Steps.{StepGoes, ReadCell, items_beside}
+use Rattle.mm_platform.specs.Standing.{StepGoes, ReadCell, items_beside}
 use Rattle.mm_model.specs.Chains as chains
 use Rattle.mm_model.specs.History.{items_of_all}
 use Rattle.mm_call.specs.TrailLaws.{foreign_made, foreign_values, reads_beside, register_of_items, with_register}
 use Rattle.mm_host.proofs.OptLeading.{opt_laws}
-use Rattle.mm_host.specs.Refusals.{CallsInTurn}
+use Rattle.mm_host.specs.AnySlots.{CallsInTurn}
 
 -- what came of the request in hand
 

@@ -14,18 +14,16 @@ use Rattle.mm_host.proofs.Below.{◌+◌, ◌%◌, length, IsLineFront, longest_
 use Rattle.mm_host.proofs.Below.{IsMade, Enters, Lines, pending_spelling, position_at, TurnGoes, StoreFault, WriteFault, WritesSlot}
 use Rattle.mm_host.proofs.Below.{HostStanding, host_standing, session_standing}
 use Rattle.mm_recovery.specs.declared.fault.HostFault.TheVariants as host
-use Rattle.mm_host.proofs.CallsMade.{first_told, InHand, lines_chain, served_calls}
+use Rattle.mm_host.proofs.CallsMade.{first_told, InHand, lines_chain, served_calls, told_in_part}
 use Rattle.mm_host.proofs.InTurn.{calls_reach, chain_reaches, ends_reach, May, met_last, StandsIn}
 use Rattle.mm_host.proofs.Below.{answer_reply, arith, IsAwaited}
 use Rattle.mm_host.specs.Continuation.{IsToldInPart, last_bytes_in}
-use Rattle.mm_schedule.specs.Machine.{IsBatchStep}
-use Rattle.mm_host.proofs.InPart.{told_in_part}
+use Rattle.mm_schedule.specs.Replies.{IsBatchStep}
 use Rattle.mm_host.proofs.Leading.{Laws, Reaches, CallsRunOver-append, answered_first, same_pending, unspoiled}
 use Rattle.mm_host.proofs.LineStep.{between_told, IsBetween, IsReady, line_goes, line_last, line_unwritten, ready_first}
 use Rattle.mm_host.proofs.LineStep.{offer_then, waiting_then}
-use Rattle.mm_host.proofs.Made.{among_next, AreMade, by_asked, IsFirstAsked, IsLineAsked, IsWritten}
-use Rattle.mm_host.proofs.Settling.{came_by, CameTo, IsSettledAt, once_first, settled_by, went_first}
-use Rattle.mm_host.proofs.Lines.{by_told, IsByInput}
+use Rattle.mm_host.proofs.Lines.{among_next, AreMade, by_asked, IsFirstAsked, IsLineAsked, IsWritten, by_told, IsByInput}
+use Rattle.mm_host.proofs.Putting.{came_by, CameTo, IsSettledAt, once_first, settled_by, went_first}
 
 -- what a fault says of what came
 

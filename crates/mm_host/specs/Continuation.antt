@@ -1,17 +1,24 @@
 -- What a session comes to by lists alone, in either variant: its replies are those of one run of
--- the module, and the slots that it leaves fit the history that the platform stands for.
+-- the module, and the slots that it leaves fit the history that the platform stands for. With it:
+-- whose fault it is that a session ends; when the lines of an input are to blame for a session's
+-- end; how often a session is to write the cell.
+use Rattle.std.specs.List.{AllByRecursion}
 use Rattle.std.specs.Prelude.{◌≡◌, ◌≢◌, ◌+◌, ◌-◌, ◌≤◌, ℕ, List, [], ◌∷◌, ◌++◌, Option, None, Some, Result, Ok, Err, false, true, nat_eq}
-use Rattle.std.specs.Prelude.{◌⊎◌}
+use Rattle.std.specs.Prelude.{◌⊎◌, Bool, is_some, length}
 use Rattle.std.proofs.Common.{inl, inr}
+use Rattle.mm_base.specs.declared.replay_fault.ReplayFault.TheVariants as replay
+use Rattle.mm_model.specs.declared.refusal.Refusal.TheVariants.{Full}
+use Rattle.mm_model.specs.declared.refusal.Refusal.TheVariants as refusal
+use Rattle.mm_play.specs.PlaysInput as plays
 use Rattle.mm_host.specs.Below.{last_position, WriteFault, Variant, Standing, Batch, One, Meaning, History, requests_of, total_of, Instance}
 use Rattle.mm_host.specs.Below.{Spoiled, LostLife, life_of, StandsFor, Answer, IsWithin, IsBatchStep, Reply, Told, StoreStanding}
 use Rattle.mm_host.specs.Below.{PendingRecord, Slots, slot_front, FitsHistory, IsRefusedAs, RequestMayBeCommitted, IsWaiting, HostFault}
-use Rattle.mm_host.specs.Below.{HostStanding, Store, Refused, Resumed, Answered}
-use Rattle.mm_model.specs.declared.refusal.Refusal.TheVariants.{Full}
+use Rattle.mm_host.specs.Below.{HostStanding, Store, Refused, Resumed, Answered, IsFrontOf, Refusal, told_line, fault_of, lines_of, tail_of}
+use Rattle.mm_host.specs.Below.{longest_request, IsUnrefused, CellIsWrittenFor, new_requests_by, new_requests_at}
 use Rattle.mm_host.specs.declared.fault.SessionFault.{SessionFault}
 use Rattle.mm_host.specs.declared.fault.SessionFault.TheVariants.{Host, Lines}
-use Rattle.mm_host.specs.Below.{IsFrontOf, Refusal, told_line}
-use Rattle.mm_host.specs.Sessions.{ServedCall, SessionGoesAfterResume, BytesBeginWith, refusal_text, told_cause}
+use Rattle.mm_host.specs.Sessions.{ServedCall, SessionGoesAfterResume, BytesBeginWith, refusal_text, told_cause, most_lines}
+use Rattle.mm_host.specs.Sessions.{SessionStanding, IsSession}
 
 -- the position of what waits, and 0 where nothing does
 abbrev pub waiting_position : Option PendingRecord → ℕ
@@ -150,3 +157,77 @@ module _ (all others : List (List ℕ)) (asked : List Batch) (i : Instance) (y :
           FitsHistory i slots_after runs.after
       pub whole : result ≢ Err (Host Store) → FitsHistory i slots_after runs.after
       pub refuses : RefusesAs result i.variant runs.after
+
+-- Whose fault it is that a session ends: the count of each device that was handed in rose exactly
+-- where it is told.
+
+abbrev pub is_platform_fault : {T : Type 0} → Result T SessionFault → Bool
+is_platform_fault (Err (Host (Refused why))) = is_some (fault_of why)
+is_platform_fault _ = false
+
+abbrev pub is_store_fault : {T : Type 0} → Result T SessionFault → Bool
+is_store_fault (Err (Host Store)) = true
+is_store_fault _ = false
+
+-- of the input and of the output as a run over lines tells it
+abbrev pub is_read_fault : {T : Type 0} → Result T SessionFault → Bool
+is_read_fault {T} (Err (Lines fault)) = plays.is_read_fault {T = T} (Err fault)
+is_read_fault _ = false
+
+abbrev pub is_write_fault : {T : Type 0} → Result T SessionFault → Bool
+is_write_fault {T} (Err (Lines fault)) = plays.is_write_fault {T = T} (Err fault)
+is_write_fault _ = false
+
+-- A refusal is never want of memory, and never a request that is too long; and want of memory is
+-- told as the host's.
+pub record IsRefusalNamed {T : Type 0} (result : Result T SessionFault) : Type 0 where
+  pub remembered : result ≢ Err (Host (Refused refusal.Memory))
+  pub short : result ≢ Err (Host (Refused refusal.Long))
+  pub hosts : result ≢ Err (Lines replay.Memory)
+
+-- When the lines of an input are to blame for a session's end.
+
+-- Each line has its LF and no more bytes than a line may have, and there are no more lines than
+-- there may be.
+pub record AreWithin (input : List ℕ) : Type 0 where
+  pub whole : tail_of input ≡ []
+  pub short : AllByRecursion (λ line. length line ≤ longest_request) (lines_of input)
+  pub few : length (lines_of input) ≤ most_lines
+
+-- no line is to blame
+abbrev pub IsNoLines : {T : Type 0} → Result T SessionFault → Type 0
+IsNoLines {T} (Err (Lines fault)) = IsUnrefused {T = T} (Err fault)
+IsNoLines _ = Unit {0}
+
+-- An input that tells its bytes, whose lines are within the limits, isn't blamed for them.
+abbrev pub SparesLines : Option (List ℕ) → Result Unit SessionFault → Type 0
+SparesLines left result = (input : List ℕ) → left ≡ Some input → AreWithin input → IsNoLines result
+
+-- How often a session is to write the cell.
+
+-- the new requests among the lines that were answered
+abbrev pub new_lines : List ServedCall → ℕ
+new_lines [] = 0
+new_lines (c ∷ calls) = new_requests_by c.answer.again + new_lines calls
+
+abbrev pub new_told_requests : {variant : Variant} {meaning : Meaning}
+    {begun : Result Resumed HostFault} {middle new : HostStanding} {left : Option (List ℕ)}
+    {taken sent : List ℕ} {result : Result Unit SessionFault}
+    → SessionGoesAfterResume variant meaning begun middle new left taken sent result → ℕ
+new_told_requests (inl stops) = 0
+new_told_requests (inr goes) = new_requests_at goes.first + new_lines goes.lines.calls
+
+-- The cell was to be written for the new requests that were told, and for the one in hand, where
+-- that was new and came to its writing step, and the session stopped at a fault before it was told.
+-- So in Basic that is once for each of them; in Opt, over a platform that tells its cell, once in
+-- all, for the one that opened a segment. No line makes more than one.
+pub record SessionWrites (variant : Variant) (meaning : Meaning) (old new : SessionStanding)
+    (result : Result Unit SessionFault) : Type 0 where
+  pub ran : IsSession variant meaning old new result
+  pub in_hand : ℕ
+  pub one : in_hand ≤ 1
+  pub untold : in_hand ≢ 0 → RequestMayBeUntold result
+  pub writes : CellIsWrittenFor variant (new_told_requests ran.goes + in_hand) old.standing
+      new.standing
+  pub by_lines : new.standing.writes
+      ≤ old.standing.writes + (1 + length (lines_of ran.taken))

@@ -1,10 +1,4 @@
 pub mod Below
-pub mod SessionStanding
 pub mod Sessions
-pub mod SessionBlame
 pub mod Continuation
-pub mod SessionLines
-pub mod SessionWrites
 pub mod AnySlots
-pub mod Refusals
-pub mod HonestStore

@@ -1,15 +1,35 @@
--- A session, by its steps: what it writes, the lines that it serves, and each turn.
-use Rattle.std.specs.Prelude.{◌≡◌, ◌≢◌, ℕ, List, [], ◌∷◌, ◌++◌, codes, Option, None, Some, Result, Ok, Err, ◌⊎◌, ◌+◌, ◌<◌, ◌≤◌, length}
+-- A session, by its steps. With it: what the objects of a session tell.
 use Rattle.std.specs.Io.KnownBytes.{Appends, Consumes, IsAtEnd}
-use Rattle.mm_host.specs.Below.{joined_lines, longest_request, IsLineFront, IsLong, WriteFault, ReadFault, LineLong, BadLine, TooMuch}
-use Rattle.mm_host.specs.Below.{Variant, Meaning, Answer, Refusal, cause_text, told_line, Cause, IsFrontOf, HostStanding}
-use Rattle.mm_host.specs.Below.{AsksNextRequest, HostResumes, HostFault, Memory, Refused, Resumed, Answered}
-use Rattle.mm_host.specs.SessionStanding.{SessionStanding, host_of}
-use Rattle.mm_host.specs.declared.fault.SessionFault.{SessionFault}
-use Rattle.mm_host.specs.declared.fault.SessionFault.TheVariants.{Host, Lines}
+use Rattle.std.specs.Prelude.{ℕ, List, Option, ◌≡◌, ◌≢◌, [], ◌∷◌, ◌++◌, codes, None, Some, Result, Ok, Err, ◌⊎◌, ◌+◌, ◌<◌, ◌≤◌, length}
 use Rattle.mm_base.specs.declared.replay_fault.ReplayFault.TheVariants.{Memory}
 use Rattle.mm_model.specs.declared.refusal.Refusal.TheVariants as refusal
 use Rattle.mm_schedule.specs.declared.reply.Cause.TheVariants as cause
+use Rattle.mm_host.specs.Below.{Standing, StoreStanding, HostStanding, joined_lines, longest_request, IsLineFront, IsLong, WriteFault}
+use Rattle.mm_host.specs.Below.{ReadFault, LineLong, BadLine, TooMuch, Variant, Meaning, Answer, Refusal, cause_text, told_line, Cause}
+use Rattle.mm_host.specs.Below.{IsFrontOf, AsksNextRequest, HostResumes, HostFault, Memory, Refused, Resumed, Answered}
+use Rattle.mm_host.specs.declared.fault.SessionFault.{SessionFault}
+use Rattle.mm_host.specs.declared.fault.SessionFault.TheVariants.{Host, Lines}
+
+-- What the objects of a session tell.
+
+-- what stands on the platform, what the store keeps, what is left of the input, and what the output
+-- received
+pub record SessionStanding : Type 0 where
+  pub standing : Standing
+  pub kept : StoreStanding
+  pub left : Option (List ℕ)
+  pub received : Option (List ℕ)
+
+abbrev pub session_standing : Standing → StoreStanding
+    → (left : Option (List ℕ)) (received : Option (List ℕ)) → SessionStanding
+session_standing standing kept left received =
+    record { standing = standing; kept = kept; left = left; received = received }
+
+-- of these, what its host's devices tell
+abbrev pub host_of : SessionStanding → HostStanding
+host_of at = record { standing = at.standing; kept = at.kept }
+
+-- A session, by its steps: what it writes, the lines that it serves, and each turn.
 
 -- What a session writes.
 

@@ -1,18 +1,15 @@
 //! A session: the lines of an input, each asked and told, one after another.
 
 ghost use Rattle.std.specs.Prelude.{◌≡◌, ◌+◌, ◌≤◌, ℕ, false, List, [], Option, IfOk, IfSome};
-ghost use Rattle.mm_base.specs.Lines.{IsLineFront};
+ghost use Rattle.mm_base.specs.Input.{IsLineFront};
 ghost use Rattle.mm_bytes.specs.Limits.{longest_request};
 ghost use Rattle.mm_play.specs.PlaysInput.{IsBlamed};
-ghost use Rattle.mm_recovery.specs.HostStanding.{host_standing};
-ghost use Rattle.mm_recovery.specs.LastAnswer.{IsSized};
-ghost use Rattle.mm_host.specs.AnySlots.{SessionRunsOnce};
-ghost use Rattle.mm_host.specs.HonestStore.{SessionContinues};
-ghost use Rattle.mm_host.specs.SessionBlame.{IsRefusalNamed, is_platform_fault, is_read_fault, is_store_fault, is_write_fault};
-ghost use Rattle.mm_host.specs.SessionLines.{SparesLines};
-ghost use Rattle.mm_host.specs.SessionStanding.{session_standing};
-ghost use Rattle.mm_host.specs.SessionWrites.{SessionWrites};
-ghost use Rattle.mm_host.specs.Sessions.{IsSession, most_lines, AsksAndTells, BytesBeginWith, ServesInput, ServesNext, TurnSends};
+ghost use Rattle.mm_recovery.specs.HostStanding.{host_standing, IsSized};
+ghost use Rattle.mm_host.specs.AnySlots.{SessionRunsOnce, SessionContinues};
+ghost use Rattle.mm_host.specs.Continuation.{IsRefusalNamed, is_platform_fault, is_read_fault, is_store_fault, is_write_fault, SparesLines};
+ghost use Rattle.mm_host.specs.Continuation.{SessionWrites};
+ghost use Rattle.mm_host.specs.Sessions.{session_standing, IsSession, most_lines, AsksAndTells, BytesBeginWith, ServesInput, ServesNext};
+ghost use Rattle.mm_host.specs.Sessions.{TurnSends};
 
 use crate::fault::SessionFault;
 use crate::telling::tell;

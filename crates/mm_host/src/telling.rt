@@ -1,16 +1,15 @@
 //! What a session writes.
 
 ghost use Rattle.std.specs.Prelude.{◌≡◌, ◌≢◌, ◌≤◌, None, Ok, Err, IfOk, OnErr, length};
-ghost use Rattle.mm_bytes.specs.Faults.{CountsFaults};
+ghost use Rattle.mm_bytes.specs.Limits.{CountsFaults, longest_request};
 ghost use Rattle.mm_base.specs.Streams.{SinkSends};
-ghost use Rattle.mm_bytes.specs.Limits.{longest_request};
 ghost use Rattle.mm_play.specs.PlaysInput.{IsBlamed};
-ghost use Rattle.mm_schedule.specs.RepliesWords.{told_line};
+ghost use Rattle.mm_schedule.specs.Replies.{told_line};
 ghost use Rattle.mm_recovery.specs.declared.fault.HostFault.TheVariants.{Refused};
 ghost use Rattle.mm_recovery.specs.declared.resuming.Resumed.TheVariants.{Answered};
-ghost use Rattle.mm_recovery.specs.LastAnswer.{IsSized};
+ghost use Rattle.mm_recovery.specs.HostStanding.{IsSized};
 ghost use Rattle.mm_host.specs.Sessions.{TellsReply, told_cause, refusal_text};
-ghost use Rattle.mm_host.specs.SessionBlame.{is_write_fault};
+ghost use Rattle.mm_host.specs.Continuation.{is_write_fault};
 
 use crate::fault::SessionFault;
 use mm_base::{ReplayFault, Sink, write_all};

@@ -2,11 +2,9 @@
 use Rattle.std.specs.Prelude.{◌≡◌, ℕ, List, Option, None, Some, Result, Ok, Err}
 use Rattle.mm_digest.specs.declared.variant.Variant.{Variant}
 use Rattle.mm_recovery.specs.declared.fault.HostFault.TheVariants as host
-use Rattle.mm_host.specs.AnySlots.{RunsOnceFrom}
-use Rattle.mm_host.specs.HonestStore.{ContinuesFrom, SessionContinues}
-use Rattle.mm_host.specs.SessionWrites.{SessionWrites}
-use Rattle.mm_host.specs.SessionBlame.{IsRefusalNamed, is_platform_fault, is_read_fault, is_store_fault, is_write_fault}
-use Rattle.mm_host.specs.SessionLines.{SparesLines}
+use Rattle.mm_host.specs.AnySlots.{RunsOnceFrom, ContinuesFrom, SessionContinues}
+use Rattle.mm_host.specs.Continuation.{SessionWrites, IsRefusalNamed, is_platform_fault, is_read_fault, is_store_fault, is_write_fault}
+use Rattle.mm_host.specs.Continuation.{SparesLines}
 use Rattle.mm_host.specs.Sessions.{IsSession}
 use Rattle.mm_host.specs.declared.fault.SessionFault.{SessionFault}
 use Rattle.mm_host.specs.declared.fault.SessionFault.TheVariants as session
@@ -15,16 +13,14 @@ use Rattle.mm_model.specs.declared.refusal.Refusal.TheVariants as refusal
 use Rattle.mm_modules.specs.Modules.{meaning_of, module_of_id}
 use Rattle.mm_modules.specs.declared.any.AnyModule.{AnyModule}
 use Rattle.mm_platform.specs.declared.fault.StepFault.{StepFault}
-use Rattle.mm_platform.specs.Standing.{Standing}
-use Rattle.mm_platform.specs.Steps.{ReadCell, StepGoes}
+use Rattle.mm_platform.specs.Standing.{Standing, ReadCell, StepGoes}
 use Rattle.mm_play.specs.PlaysInput.{IsBlamed}
 use Rattle.mm_schedule.specs.declared.header.Header.{Header}
 use Rattle.mm_seal.specs.Cell.{ReadsCell}
 use Rattle.mm_seal.specs.declared.cell.Cell.{Cell as Held}
 use Rattle.mm_seal.specs.declared.cell.CellFault.{CellFault}
 use Rattle.mm_seal.specs.declared.cell.CellFault.TheVariants as unheld
-use Rattle.mm_status.specs.Status.{status_at}
-use Rattle.mm_status.specs.CommandOutput.{TellsStop, StopsAs}
+use Rattle.mm_status.specs.Status.{status_at, TellsStop, StopsAs}
 use Rattle.mm_host_commands.specs.Outside.{Outside, session_of}
 use Rattle.mm_status.specs.declared.status.Status.{Status}
 use Rattle.mm_status.specs.declared.status.Status.TheVariants.{Done, Memory, PlatformFault, StoreFault, Blank, Cell, Lost, Refused}

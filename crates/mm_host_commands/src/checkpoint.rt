@@ -1,8 +1,7 @@
 //! The command `checkpoint`: the open segment is closed.
 
-ghost use Rattle.mm_host_commands.specs.Checkpoint.{CheckpointsInstance, checkpoint_line};
-ghost use Rattle.mm_status.specs.CommandOutput.{TellsLines};
-ghost use Rattle.mm_host_commands.specs.Outside.{Outside, with_platform};
+ghost use Rattle.mm_host_commands.specs.Outside.{CheckpointsInstance, checkpoint_line, Outside, with_platform};
+ghost use Rattle.mm_status.specs.Status.{TellsLines};
 
 use mm_base::Sink;
 use mm_opt::{CheckpointRefusal, Checkpointed, checkpoint};

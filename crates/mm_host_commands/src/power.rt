@@ -1,7 +1,6 @@
 //! The command `power`: the platform loses its power, and gets it back.
 
-ghost use Rattle.mm_host_commands.specs.Outside.{Outside, with_platform};
-ghost use Rattle.mm_host_commands.specs.Power.{LosesPower};
+ghost use Rattle.mm_host_commands.specs.Outside.{Outside, with_platform, LosesPower};
 
 use mm_base::Sink;
 use mm_platform::Platform;

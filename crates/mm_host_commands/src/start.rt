@@ -1,9 +1,8 @@
 //! The command `init`: an instance of a variant and a module is started on a blank platform.
 
 ghost use Rattle.std.specs.Prelude.{ℕ, List, Option};
-ghost use Rattle.mm_host_commands.specs.Init.{StartsInstance, init_line};
-ghost use Rattle.mm_status.specs.CommandOutput.{TellsLines};
-ghost use Rattle.mm_host_commands.specs.Outside.{outside};
+ghost use Rattle.mm_host_commands.specs.Outside.{StartsInstance, init_line, outside};
+ghost use Rattle.mm_status.specs.Status.{TellsLines};
 
 use mm_base::{Sink, Source};
 use mm_host::{InitFault, init};

@@ -1,25 +1,80 @@
--- The devices of a host may fail at each call, and leave the same.
+-- The devices of a host may fail at each call, and leave the same. With it: any program stops where
+-- its devices fail, over any devices.
 use Rattle.std.specs.Io.KnownBytes.{Appends, Consumes, Keeps}
 use Rattle.std.specs.Option.{option_map}
 use Rattle.std.specs.Prelude.{true, false, IsSome}
-use Rattle.std.proofs.Common.{◌≡◌, ◌∙◌, ◌≤◌, ◌+◌, ℕ, zero, suc, List, [], ◌∷◌, Option, None, Some, Err, length, take, refl, subst, sym, ap}
-use Rattle.std.proofs.Common.{arith}
+use Rattle.std.proofs.Common.{refl, subst, sym, inl, inr, ◌≡◌, ◌∙◌, ◌≤◌, ◌+◌, ℕ, zero, suc, List, [], ◌∷◌, Option, None, Some, Err, length}
+use Rattle.std.proofs.Common.{take, ap, arith}
 use Rattle.std.proofs.lemmas.List.{append-nil}
-use Rattle.mm_bytes.specs.Faults.{next_count}
-use Rattle.mm_platform.specs.Standing.{Item, Plan, Standing, plan_after}
-use Rattle.mm_platform.specs.Steps.{Act, PowerCycles, StepGoes, items_after, items_beside, cell_after, taken_room, writes_after}
-use Rattle.mm_platform.specs.Steps.{ReadCell, WriteCell, ReadRegister, ResetRegister, ExtendRegister}
+use Rattle.mm_bytes.specs.Limits.{next_count}
+use Rattle.mm_platform.specs.Standing.{Item, Plan, Standing, plan_after, Act, PowerCycles, StepGoes, items_after, items_beside, cell_after}
+use Rattle.mm_platform.specs.Standing.{taken_room, writes_after, ReadCell, WriteCell, ReadRegister, ResetRegister, ExtendRegister}
 use Rattle.mm_platform.specs.declared.fault.StepFault.TheVariants.{Off}
-use Rattle.mm_store.specs.Calls.{ReadsSlot, WritesSlot, slots_with_bytes}
-use Rattle.mm_store.specs.Slots.{Slots, slot_in, slots_with}
-use Rattle.mm_store.specs.StoreStanding.{StoreStanding}
+use Rattle.mm_store.specs.StoreStanding.{ReadsSlot, WritesSlot, slots_with_bytes, Slots, slot_in, slots_with, StoreStanding}
 use Rattle.mm_store.specs.declared.fault.StoreFault.TheVariants.{Failed}
-use Rattle.mm_killed.specs.DeviceCalls.{CallAnswer, CallGoes, CallMayLeave, DeviceCall, Place, InputAnswers, OutputAnswers}
-use Rattle.mm_killed.specs.DeviceCalls.{Allocates, Cycles, Readies, Reads, Sends, Steps, TakesEntropy, TakesInput, Writes}
-use Rattle.mm_killed.specs.DeviceCalls.{OfInput, OfMemory, OfOutput, OfPlatform, OfStore}
-use Rattle.mm_killed.specs.Stopping.{CallLeaves, StopsAt, TellsSame}
-use Rattle.mm_killed.specs.Programs.{Code, IsKilledAt}
-use Rattle.mm_killed.proofs.Stopping.{CallAnswers, CallFails, MayFail, killed_stops}
+use Rattle.mm_killed.specs.DeviceCalls.{Code, Ends, Makes, IsKilledAt, RunsTo, CallAnswer, CallGoes, CallMayLeave, DeviceCall, Place}
+use Rattle.mm_killed.specs.DeviceCalls.{InputAnswers, OutputAnswers, Allocates, Cycles, Readies, Reads, Sends, Steps, TakesEntropy}
+use Rattle.mm_killed.specs.DeviceCalls.{TakesInput, Writes, OfInput, OfMemory, OfOutput, OfPlatform, OfStore, CallLeaves, StopsAt}
+use Rattle.mm_killed.specs.DeviceCalls.{TellsSame}
+
+-- Any program stops where its devices fail, over any devices.
+
+module _ {Call Answer Place : Type 0} (Goes : Call → Place → Place → Answer → Type 0) (Leaves : Call → Place → Place → Type 0)
+    (Holds : Place → Type 0) (Same : Place → Place → Type 0) where
+  -- a call fails, and leaves the same
+  pub record CallFails (call : Call) (at : Place) : Type 0 where
+    pub new : Place
+    pub answer : Answer
+    pub goes : Goes call at new answer
+    pub holds : Holds new
+    pub same : Same new at
+
+  -- an answer of the call leaves the same
+  pub record CallAnswers (call : Call) (old left : Place) : Type 0 where
+    pub told : Place
+    pub answer : Answer
+    pub goes : Goes call old told answer
+    pub same : Same told left
+
+  -- what devices have to be
+  pub record MayFail : Type 0 where
+    pub fails : (call : Call) (at : Place) → Holds at → CallFails call at
+    pub stays : (call : Call) (old new : Place) (answer : Answer) → Holds old → Goes call old new answer → Holds new
+    pub leaves : (call : Call) (old left : Place) → Leaves call old left → CallAnswers call old left
+    pub alike : (at : Place) → Same at at
+    pub along : (one two three : Place) → Same one two → Same two three → Same one three
+
+  -- a run that leaves the same
+  pub record Stopped {R : Type 0} (code : Code Call Answer R) (old left : Place) : Type 0 where
+    pub end : Place
+    pub given : R
+    pub runs : RunsTo Goes code old end given
+    pub same : Same end left
+
+  module _ (may : MayFail) where
+    -- all calls fail from here on
+    stops : {R : Type 0} (code : Code Call Answer R) (old left : Place) → Holds old → Same old left → Stopped code old left
+    stops (Ends given) old left holds same = record { end = old; given = given; runs = (refl, refl); same = same }
+    stops (Makes call next) old left holds same =
+        let f = may.fails call old holds in
+        let s = stops (next f.answer) f.new left f.holds (may.along f.new old left f.same same) in
+        record { end = s.end; given = s.given; runs = (f.new, f.answer, f.goes, s.runs); same = s.same }
+
+    pub killed_stops : {R : Type 0} (code : Code Call Answer R) (old left : Place) → Holds old → IsKilledAt Goes Leaves code old left
+        → Stopped code old left
+    killed_stops (Ends given) old left holds e =
+        record { end = old; given = given; runs = (refl, refl); same = subst (λ (p : Place). Same old p) (sym e) (may.alike old) }
+    killed_stops (Makes call next) old left holds (inl e) =
+        stops (Makes call next) old left holds (subst (λ (p : Place). Same old p) (sym e) (may.alike old))
+    killed_stops (Makes call next) old left holds (inr (inl leaves)) =
+        let a = may.leaves call old left leaves in
+        let s = stops (next a.answer) a.told left (may.stays call old a.told a.answer holds a.goes) a.same in
+        record { end = s.end; given = s.given; runs = (a.told, a.answer, a.goes, s.runs); same = s.same }
+    killed_stops (Makes call next) old left holds (inr (inr later)) =
+        let s = killed_stops (next later.1) later.0 left (may.stays call old later.0 later.1 holds later.2) later.3 in
+        record { end = s.end; given = s.given; runs = (later.0, later.1, later.2, s.runs); same = s.same }
+
+-- The devices of a host may fail at each call, and leave the same.
 
 -- the platform doesn't tell its plan
 abbrev pub IsUnplanned : Place → Type 0

@@ -1,3 +1,2 @@
-mod Stopping
 mod Failing
 pub mod Above

@@ -1,13 +1,14 @@
--- The calls that a program makes of its devices, as their traits have them.
-use Rattle.std.specs.Prelude.{◌≡◌, ◌<◌, ◌≤◌, ℕ, Bool, true, false, List, [], length, take, Option, None, Some, Result, Ok, Err, IfOk}
-use Rattle.std.specs.Result.{result_err}
+-- The calls that a program makes of its devices, as their traits have them. With it: a program, as
+-- a tree of calls of its devices, and where it stands when it is killed; a program that is killed
+-- leaves what the same program leaves that its devices fail.
 use Rattle.std.specs.Io.KnownBytes.{Appends, Consumes, IsAtEnd, Keeps}
-use Rattle.mm_platform.specs.Standing.{Item, Standing, item_values, register_after}
-use Rattle.mm_platform.specs.Steps.{Act, ReadCell, ReadRegister, PowerCycles, RoomGrows, StepGoes}
+use Rattle.std.specs.Prelude.{◌≡◌, ◌<◌, ◌≤◌, ℕ, Bool, true, false, List, [], length, take, Option, None, Some, Result, Ok, Err, IfOk, ◌⊎◌}
+use Rattle.std.specs.Result.{result_err}
+use Rattle.mm_platform.specs.Standing.{Item, Standing, item_values, register_after, Act, ReadCell, ReadRegister, PowerCycles, RoomGrows}
+use Rattle.mm_platform.specs.Standing.{StepGoes}
 use Rattle.mm_platform.specs.declared.fault.StepFault.{StepFault}
 use Rattle.mm_platform.specs.declared.fault.StepFault.TheVariants.{Off}
-use Rattle.mm_store.specs.Calls.{ReadsSlot, WritesSlot}
-use Rattle.mm_store.specs.StoreStanding.{StoreStanding}
+use Rattle.mm_store.specs.StoreStanding.{ReadsSlot, WritesSlot, StoreStanding}
 use Rattle.mm_store.specs.declared.fault.StoreFault.{StoreFault}
 use Rattle.mm_store.specs.declared.fault.StoreFault.TheVariants.{Failed}
 
@@ -122,3 +123,66 @@ CallMayLeave (Sends piece) at new =
     (new ≡ record at { received = new.received })
     × (count : ℕ) × (count ≤ length piece) × Appends at.received new.received (take count piece)
 CallMayLeave _ at new = new ≡ at
+
+-- A program, as a tree of calls of its devices, and where it stands when it is killed.
+
+-- It ends with this result; or it makes a call, and goes on by the answer alone.
+pub data Code (Call Answer R : Type 0) : Type 0 where
+  Ends : R → Code Call Answer R
+  Makes : Call → (Answer → Code Call Answer R) → Code Call Answer R
+
+-- The program is run to its end, where each call leads as this says, by its answer.
+abbrev pub RunsTo : {Call Answer Place R : Type 0}
+    → (Goes : Call → Place → Place → Answer → Type 0)
+    → Code Call Answer R → Place → Place → R → Type 0
+RunsTo Goes (Ends given) old new result = (new ≡ old) × (result ≡ given)
+RunsTo {Answer = Answer} {Place = Place} Goes (Makes call next) old new result =
+    (at : Place) × (answer : Answer) × Goes call old at answer
+    × RunsTo Goes (next answer) at new result
+
+-- It is killed: before a call, or within it, of which no answer comes; or behind some answers, up
+-- to its end.
+abbrev pub IsKilledAt : {Call Answer Place R : Type 0}
+    → (Goes : Call → Place → Place → Answer → Type 0) → (Leaves : Call → Place → Place → Type 0)
+    → Code Call Answer R → Place → Place → Type 0
+IsKilledAt Goes Leaves (Ends given) old left = left ≡ old
+IsKilledAt {Answer = Answer} {Place = Place} Goes Leaves (Makes call next) old left =
+    (left ≡ old) ⊎ Leaves call old left
+    ⊎ ((at : Place) × (answer : Answer) × Goes call old at answer
+    × IsKilledAt Goes Leaves (next answer) at left)
+
+-- A program that is killed leaves what the same program leaves that its devices fail.
+
+-- Two places tell the same, but for counts of steps, writes, power losses and faults, and for room.
+pub record TellsSame (one other : Place) : Type 0 where
+  pub cell : one.standing.cell ≡ other.standing.cell
+  pub items : one.standing.items ≡ other.standing.items
+  pub is_on : one.standing.is_on ≡ other.standing.is_on
+  pub slots : one.kept.slots ≡ other.kept.slots
+  pub is_honest : one.kept.is_honest ≡ other.kept.is_honest
+  pub unsynced : one.kept.unsynced ≡ other.kept.unsynced
+  pub left : one.left ≡ other.left
+  pub entropy : one.entropy ≡ other.entropy
+  pub received : one.received ≡ other.received
+
+-- What a killed call may leave, but for counts.
+pub record CallLeaves (call : DeviceCall) (at left : Place) : Type 0 where
+  pub told : Place
+  pub may : CallMayLeave call at told
+  pub same : TellsSame told left
+
+-- A run of the program to its end, each call answered as the traits allow, that leaves the same.
+pub record StopsAt {R : Type 0} (code : Code DeviceCall CallAnswer R) (old left : Place) : Type 0
+  where
+    pub end : Place
+    pub given : R
+    pub runs : RunsTo CallGoes code old end given
+    pub leaves : TellsSame end left
+
+-- Any program, over a platform that doesn't tell its plan: killed at any call, it leaves what it
+-- leaves over devices of which that call fails, and all behind it.
+abbrev pub AnyProgramStops : Type 0 → Type 0
+AnyProgramStops R =
+    (code : Code DeviceCall CallAnswer R) (old left : Place) →
+    old.standing.plan ≡ None → IsKilledAt CallGoes CallLeaves code old left →
+    StopsAt code old left

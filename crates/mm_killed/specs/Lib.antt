@@ -1,3 +1,1 @@
-pub mod Programs
 pub mod DeviceCalls
-pub mod Stopping

@@ -5,17 +5,17 @@ use Rattle.std.proofs.Common.{◌≡◌, ◌∙◌, ◌+◌, ◌≤◌, ℕ, Lis
 use Rattle.std.proofs.Common.{append_assoc, length-append, length-drop}
 use Rattle.std.proofs.lemmas.List.{take-append-drop, length-take-le}
 use Rattle.std.proofs.Math.Seq.{drop-append-add}
-use Rattle.mm_bytes.specs.Faults.{next_count}
-use Rattle.mm_platform.specs.Raw.{LeavesRest, ReadsRaw, WritesRaw, bytes_with_part}
-use Rattle.mm_platform.specs.Standing.{Plan, Standing, plan_after}
-use Rattle.mm_platform.specs.Steps.{Act, DeviceStepEnds, IsOff, PowerCycles, StepGoes, cell_after, writes_after}
-use Rattle.mm_platform.specs.Steps.{ReadCell, WriteCell, ReadRegister, ResetRegister, ExtendRegister}
+use Rattle.mm_bytes.specs.Limits.{next_count}
+use Rattle.mm_platform.specs.Memory.{LeavesRest, ReadsRaw, WritesRaw, bytes_with_part}
+use Rattle.mm_platform.specs.Standing.{Plan, Standing, plan_after, Act, DeviceStepEnds, IsOff, PowerCycles, StepGoes, cell_after}
+use Rattle.mm_platform.specs.Standing.{writes_after, ReadCell, WriteCell, ReadRegister, ResetRegister, ExtendRegister}
 use Rattle.mm_platform.specs.declared.fault.StepFault.{StepFault}
 use Rattle.mm_platform.specs.declared.fault.StepFault.TheVariants.{Failed, Off}
 use Rattle.mm_killed.proofs.Above.{CallAnswers, CallFails, MayFail, cycle_fails, failed_standing, killed_stops, nothing_beside, step_fails}
-use Rattle.mm_killed_devices.specs.RawCalls.{CyclesRaw, IsOfRegister, RawCall, RawGoes, RawMayLeave, ReadsRange, StepsRegister, WritesRange}
+use Rattle.mm_killed_devices.specs.PageCalls.{CyclesRaw, IsOfRegister, RawCall, RawGoes, RawMayLeave, ReadsRange, StepsRegister}
+use Rattle.mm_killed_devices.specs.PageCalls.{WritesRange}
 use Rattle.mm_killed_devices.specs.Devices.{CellCyclesStop, CellStepsStop, IsMemory}
-use Rattle.mm_twocell.specs.Pairs.{picked_cell, standing_as_one}
+use Rattle.mm_twocell.specs.TornMemory.{picked_cell, standing_as_one}
 
 true_false : true ≡ false → ⊥
 true_false e = cc

@@ -1,3 +1,2 @@
 mod CellStops
 mod PageStops
-mod Reaching

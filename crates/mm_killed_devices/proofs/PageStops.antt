@@ -1,21 +1,22 @@
--- The store of pages, killed at a call of its device, leaves what its call may leave.
+-- The store of pages, killed at a call of its device, leaves what its call may leave. With it: a
+-- program that is killed within a device is killed at that device's call.
 use Rattle.std.specs.Option.{option_map}
 use Rattle.std.specs.Prelude.{true, false}
 use Rattle.std.proofs.Common.{◌≡◌, ◌∙◌, ◌-◌, ◌^◌, ◌≤◌, ℕ, List, [], Bool, Option, None, Some, Result, Ok, Err, refl, sym, ap, subst, arith}
-use Rattle.mm_bytes.specs.Faults.{CountsFaults, next_count}
+use Rattle.mm_bytes.specs.Limits.{CountsFaults, next_count}
 use Rattle.mm_bytes.specs.declared.fault.Failed as device
-use Rattle.mm_store.specs.Calls.{ReadsSlot, SyncsSlot, WritesSlot, LeavesInSlot}
-use Rattle.mm_store.specs.StoreStanding.{StoreStanding}
-use Rattle.mm_store.specs.UnsyncedSlots.{UnsyncedSlots, unsynced_slots_with, unsynced_slots_with_mark}
-use Rattle.mm_store.specs.Slots.{Slots}
+use Rattle.mm_platform.specs.Standing.{Standing, Act, PowerCycles, StepGoes}
+use Rattle.mm_platform.specs.declared.fault.StepFault.TheVariants.{Off}
+use Rattle.mm_store.specs.StoreStanding.{ReadsSlot, SyncsSlot, WritesSlot, LeavesInSlot, StoreStanding, UnsyncedSlots, unsynced_slots_with}
+use Rattle.mm_store.specs.StoreStanding.{unsynced_slots_with_mark, Slots}
 use Rattle.mm_store.specs.declared.fault.StoreFault.{StoreFault}
 use Rattle.mm_store.specs.declared.fault.StoreFault.TheVariants.{Failed, Memory}
 use Rattle.mm_pages.specs.PageStanding.{PageStanding, store_standing_on}
+use Rattle.mm_killed.specs.DeviceCalls.{Cycles, Place, Reads, Steps, Writes, CallLeaves, TellsSame}
 use Rattle.mm_killed.proofs.Above.{CallAnswers, CallFails, MayFail, killed_stops, put_back_told}
+use Rattle.mm_killed_devices.specs.Devices.{CountsAlone, PageReadsStop, PageWritesStop, KillsReachCalls, LeavesStanding, LeavesStore}
 use Rattle.mm_killed_devices.specs.PageCalls.{LengthOf, OfChange, OfLength, OfPage, Page, PageAnswer, PageCall, PageGoes, PageMayLeave}
-use Rattle.mm_killed_devices.specs.PageCalls.{SetsLengthOf, Syncs, WritesPageOf}
-use Rattle.mm_killed_devices.specs.PageCalls.{Renews}
-use Rattle.mm_killed_devices.specs.Devices.{CountsAlone, PageReadsStop, PageWritesStop}
+use Rattle.mm_killed_devices.specs.PageCalls.{SetsLengthOf, Syncs, WritesPageOf, Renews}
 
 -- two devices tell the same
 pub record PagesSame (one other : PageStanding) : Type 0 where
@@ -229,3 +230,74 @@ page_writes slot bytes code old left runs alone killed =
       is_honest = s.same.is_honest;
       unsynced = s.same.unsynced;
     }
+
+-- A program that is killed within a device is killed at that device's call.
+
+-- where the platform alone tells another, or the store
+standing_same : {May : Standing → Type 0} (left : Place) (l : LeavesStanding May left.standing)
+    → TellsSame (record left { standing = l.told }) left
+standing_same left l = record {
+  cell = l.cell;
+  items = l.items;
+  is_on = l.is_on;
+  slots = refl;
+  is_honest = refl;
+  unsynced = refl;
+  left = refl;
+  entropy = refl;
+  received = refl;
+}
+
+kept_same : {May : StoreStanding → Type 0} (left : Place) (l : LeavesStore May left.kept) → TellsSame (record left { kept = l.told }) left
+kept_same left l = record {
+  cell = refl;
+  items = refl;
+  is_on = refl;
+  slots = l.slots;
+  is_honest = l.is_honest;
+  unsynced = l.unsynced;
+  left = refl;
+  entropy = refl;
+  received = refl;
+}
+
+steps_left : (at left : Place) (act : Act) → LeavesStanding (λ told. StepGoes act at.standing told (Some Off)) left.standing
+    → left ≡ record at { standing = left.standing } → CallLeaves (Steps act) at left
+steps_left at left act l e = record {
+  told = record left { standing = l.told };
+  may = (ap (λ (p : Place). record p { standing = l.told }) e, l.may);
+  same = standing_same left l;
+}
+
+cycles_left : (at left : Place) → LeavesStanding (λ told. PowerCycles at.standing told (Some Off)) left.standing
+    → left ≡ record at { standing = left.standing } → CallLeaves Cycles at left
+cycles_left at left l e = record {
+  told = record left { standing = l.told };
+  may = (ap (λ (p : Place). record p { standing = l.told }) e, l.may);
+  same = standing_same left l;
+}
+
+reads_left : (at left : Place) (slot : ℕ) → LeavesStore (λ told. ReadsSlot slot at.kept told (Err Failed)) left.kept
+    → left ≡ record at { kept = left.kept } → CallLeaves (Reads slot) at left
+reads_left at left slot l e = record {
+  told = record left { kept = l.told };
+  may = (ap (λ (p : Place). record p { kept = l.told }) e, l.may);
+  same = kept_same left l;
+}
+
+writes_left : (at left : Place) (slot : ℕ) (bytes : List ℕ)
+    → LeavesStore (λ told. WritesSlot slot bytes at.kept told (Err Failed)) left.kept
+    → left ≡ record at { kept = left.kept } → CallLeaves (Writes slot bytes) at left
+writes_left at left slot bytes l e = record {
+  told = record left { kept = l.told };
+  may = (ap (λ (p : Place). record p { kept = l.told }) e, l.may);
+  same = kept_same left l;
+}
+
+pub kills_reach : KillsReachCalls
+kills_reach at left = record {
+  steps = λ act l e. steps_left at left act l e;
+  cycles = λ l e. cycles_left at left l e;
+  reads = λ slot l e. reads_left at left slot l e;
+  writes = λ slot bytes l e. writes_left at left slot bytes l e;
+}

@@ -1,21 +1,16 @@
 -- What our own devices leave that are killed within a call is what their call may leave.
 use Rattle.std.specs.Prelude.{◌≡◌, ◌≤◌, ◌-◌, ◌^◌, ℕ, List, length, None, Option, Some, Result, Err}
-use Rattle.mm_bytes.specs.Faults.{next_count}
-use Rattle.mm_killed.specs.DeviceCalls.{Cycles, Place, Reads, Steps, Writes}
-use Rattle.mm_killed.specs.Stopping.{CallLeaves}
-use Rattle.mm_killed.specs.Programs.{Code, IsKilledAt, RunsTo}
-use Rattle.mm_killed_devices.specs.PageCalls.{PageAnswer, PageCall, PageGoes, PageMayLeave}
-use Rattle.mm_killed_devices.specs.RawCalls.{RawCall, RawGoes, RawMayLeave}
+use Rattle.mm_bytes.specs.Limits.{next_count}
+use Rattle.mm_killed.specs.DeviceCalls.{Cycles, Place, Reads, Steps, Writes, CallLeaves, Code, IsKilledAt, RunsTo}
+use Rattle.mm_killed_devices.specs.PageCalls.{PageAnswer, PageCall, PageGoes, PageMayLeave, RawCall, RawGoes, RawMayLeave}
 use Rattle.mm_pages.specs.PageStanding.{PageStanding, store_standing_on}
-use Rattle.mm_platform.specs.Standing.{Standing}
-use Rattle.mm_platform.specs.Steps.{Act, PowerCycles, StepGoes, writes_after}
+use Rattle.mm_platform.specs.Standing.{Standing, Act, PowerCycles, StepGoes, writes_after}
 use Rattle.mm_platform.specs.declared.fault.StepFault.{StepFault}
 use Rattle.mm_platform.specs.declared.fault.StepFault.TheVariants.{Off}
-use Rattle.mm_store.specs.Calls.{ReadsSlot, WritesSlot}
-use Rattle.mm_store.specs.StoreStanding.{StoreStanding}
+use Rattle.mm_store.specs.StoreStanding.{ReadsSlot, WritesSlot, StoreStanding}
 use Rattle.mm_store.specs.declared.fault.StoreFault.{StoreFault}
 use Rattle.mm_store.specs.declared.fault.StoreFault.TheVariants.{Failed}
-use Rattle.mm_twocell.specs.Pairs.{standing_as_one}
+use Rattle.mm_twocell.specs.TornMemory.{standing_as_one}
 
 -- The memory of the two cells: it doesn't tell its plan, and has 209 bytes where it tells them.
 pub record IsMemory (at : Standing) : Type 0 where

@@ -1,3 +1,2 @@
-pub mod RawCalls
 pub mod PageCalls
 pub mod Devices

@@ -2,7 +2,7 @@
 //! they hold, as files do.
 
 ghost use Rattle.std.specs.Prelude.{◌≡◌, IfErr, None, false};
-ghost use Rattle.mm_bytes.specs.Faults.{CountsFaults};
+ghost use Rattle.mm_bytes.specs.Limits.{CountsFaults};
 ghost use Rattle.mm_files.specs.UntoldDevices.{none_are, untold_standing};
 
 use crate::life::{Leaves, Life, front_left, leave};

@@ -8,28 +8,24 @@ use Rattle.mm_platform.specs.Standing.{Standing}
 use Rattle.mm_module.specs.Batch.{Batch}
 use Rattle.mm_module.specs.Meaning.{IsLawful, Meaning}
 use Rattle.mm_model.specs.History.{Foreign, History, Move, first_history}
-use Rattle.mm_model.specs.Instance.{Instance}
-use Rattle.mm_model.specs.InstanceWords.{basic_instance}
+use Rattle.mm_model.specs.Chains.{Instance, basic_instance}
 use Rattle.mm_model.specs.ListLaws.{each_self}
 use Rattle.mm_model.specs.Messages.{AreNoGuards, IsClear}
 use Rattle.mm_model.specs.Moves.{digests_of}
-use Rattle.mm_model.specs.Places.{NamesPosition}
-use Rattle.mm_model.specs.Standing.{IsGenuine, StandsFor, issued_bytes}
+use Rattle.mm_model.specs.Standing.{NamesPosition, IsGenuine, StandsFor, issued_bytes}
 use Rattle.mm_model.proofs.Above.{basic_issued}
 use Rattle.mm_call.specs.CallPremises.{IsWithin, counted_moves, moves_from_reset}
 use Rattle.mm_call.specs.Checkpoints.{checkpoint_outcome}
-use Rattle.mm_call.specs.Levels.{digest_level, list_level}
-use Rattle.mm_call.specs.MoveLaws.{committed_batches, same_batches}
-use Rattle.mm_call.specs.OfferLaws.{basic_content, issued_once}
+use Rattle.mm_call.specs.CallFinding.{digest_level, list_level}
+use Rattle.mm_call.specs.OfferLaws.{committed_batches, same_batches, basic_content, issued_once}
 use Rattle.mm_call.specs.WalkLaws.{committed-foreign}
 use Rattle.mm_call.proofs.Above.{names_made, read_moves}
-use Rattle.mm_opt.specs.CheckpointOnCourse.{IsCheckpointOnCourse}
+use Rattle.mm_opt.specs.CheckpointPromise.{IsCheckpointOnCourse}
 use Rattle.mm_recovery.proofs.Above.{basic_batch_met}
 use Rattle.mm_host.proofs.Above.{basic_laws}
 use Rattle.mm_life.specs.Deeds.{LifeCall, Calls, Checkpoints, Deed, DeedLeads, Extends, LosesPower}
 use Rattle.mm_life.specs.Laws.{BasicLifeIsOne}
-use Rattle.mm_life.specs.Premises.{life_batches, life_messages}
-use Rattle.mm_life.specs.DeedHistory.{BasicDeedsStay, IsNoCall, HistoryStays}
+use Rattle.mm_life.specs.Premises.{life_batches, life_messages, BasicDeedsStay, IsNoCall, HistoryStays}
 use Rattle.mm_life.specs.Stages.{IsLife, LifePart, LifeStage, life_calls}
 use Rattle.mm_life.specs.Below.{Checkpointed, CheckpointRefusal}
 use Rattle.std.specs.Prelude.{Result}

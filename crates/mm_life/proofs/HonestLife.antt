@@ -1,40 +1,53 @@
--- A life over one honest store, part after part, in either variant.
+-- A life over one honest store, part after part, in either variant. With it: a first start, a
+-- session, a loss of power, and a session over the same store, over any devices; a life over the
+-- store of a first start is gone on with, in each variant.
+use Rattle.std.specs.List.{Contains}
 use Rattle.std.proofs.Common.{◌≡◌, ◌≢◌, ◌≤◌, ◌+◌, ◌-◌, ◌∙◌, ◌⊎◌, ℕ, Bool, true, false, List, [], ◌∷◌, Option, None, Some, Result, Err}
-use Rattle.std.proofs.Common.{length, arith, refl, sym, ap, subst, inl, inr, length-append}
+use Rattle.std.proofs.Common.{length, arith, refl, sym, ap, subst, inl, inr, length-append, take}
+use Rattle.mm_digest.specs.declared.variant.Variant.TheVariants.{Basic, Opt}
 use Rattle.mm_platform.specs.Standing.{Standing}
 use Rattle.mm_module.specs.Batch.{Batch, One}
-use Rattle.mm_module.specs.Meaning.{Meaning}
-use Rattle.mm_model.specs.History.{History, requests_of, total_of}
-use Rattle.mm_model.specs.Instance.{Instance}
-use Rattle.mm_model.specs.Standing.{StandsFor}
+use Rattle.mm_module.specs.Meaning.{Meaning, IsLawful}
+use Rattle.mm_model.specs.Chains.{Instance, basic_instance, opt_instance}
+use Rattle.mm_model.specs.History.{History, requests_of, total_of, first_history}
+use Rattle.mm_model.specs.ListLaws.{each_left, each_right, each_self}
+use Rattle.mm_model.specs.Moves.{digests_of}
+use Rattle.mm_model.specs.Standing.{StandsFor, cell_of}
+use Rattle.mm_model.specs.declared.refusal.Refusal.TheVariants as refusal
 use Rattle.mm_call.specs.CallPremises.{IsWithin}
-use Rattle.mm_call.proofs.Above.{requests-push}
-use Rattle.mm_schedule.specs.Machine.{IsBatchStep}
+use Rattle.mm_call.proofs.Above.{requests-push, stands_at}
+use Rattle.mm_schedule.specs.Replies.{IsBatchStep}
 use Rattle.mm_schedule.specs.declared.reply.Reply.TheVariants.{Told}
+use Rattle.mm_evidence.proofs.Above.{clash_or}
 use Rattle.mm_store.specs.PendingRecord.{PendingRecord}
-use Rattle.mm_store.specs.Slots.{Slots}
-use Rattle.mm_recovery.specs.SlotFit.{FitsBy, FitsHistory}
+use Rattle.mm_store.specs.StoreStanding.{Slots, StoreStanding}
+use Rattle.mm_recovery.specs.FirstStart.{InstanceBegins, Devices, first_history_on, first_slots}
+use Rattle.mm_recovery.specs.HostStanding.{FitsBy, FitsHistory}
 use Rattle.mm_recovery.specs.declared.fault.HostFault.TheVariants.{Store}
-use Rattle.mm_recovery.proofs.Above.{fits_on}
-use Rattle.mm_host.specs.Continuation.{ContinuesTo, HasUntoldRequest, IsInHand, IsNotBeyond, CallsRunOver, served_calls_in}
-use Rattle.mm_host.specs.Continuation.{last_bytes_in}
+use Rattle.mm_recovery.proofs.Above.{fits_on, is_first}
+use Rattle.mm_host.specs.Continuation.{ContinuesTo, HasUntoldRequest, IsInHand, IsNotBeyond, CallsRunOver, served_calls_in, last_bytes_in}
 use Rattle.mm_host.specs.Sessions.{ServedCall}
 use Rattle.mm_host.specs.declared.fault.SessionFault.{SessionFault}
 use Rattle.mm_host.specs.declared.fault.SessionFault.TheVariants.{Host}
 use Rattle.mm_host.proofs.Above.{Shows, calls_reach}
-use Rattle.mm_life.specs.Deeds.{LifeCall, Calls, Checkpoints, Deed, DeedLeads, Extends, LosesPower}
-use Rattle.mm_life.specs.HonestLife.{AreNoChance, BeginsOver, IsGoneOnWith, IsNextOrLast, IsOverOneStore, LeavesNoChance}
-use Rattle.mm_life.specs.HonestLife.{GoesOnFrom, KeepsSegments, NoneIsRefusedAs, PartGoesOn, reached_position, store_at_end, store_behind}
-use Rattle.mm_model.specs.declared.refusal.Refusal.TheVariants as refusal
-use Rattle.mm_store.specs.StoreStanding.{StoreStanding}
-use Rattle.mm_life.specs.OneList.{LifeFollows, PartSteps, SessionSteps}
-use Rattle.mm_life.specs.SessionCalls.{first_bytes, IsInHandOf, session_calls, served_calls_of}
-use Rattle.mm_life.specs.Stages.{Does, Holds, IsLife, LifePart, PartLeads, Program, LifeStage, end_of, life_calls, part_calls}
-use Rattle.mm_life.specs.DeedHistory.{IsNoCall, HistoryStays}
-use Rattle.mm_life.proofs.Chains.{session_chain}
+use Rattle.mm_life.specs.Deeds.{LifeCall, Calls, Checkpoints, Deed, DeedLeads, Extends, LosesPower, first_bytes, IsInHandOf, session_calls}
+use Rattle.mm_life.specs.Deeds.{served_calls_of}
+use Rattle.mm_life.specs.HonestLife.{AreNoChance, BeginsOver, IsGoneOnWith, IsNextOrLast, IsOverOneStore, LeavesNoChance, GoesOnFrom}
+use Rattle.mm_life.specs.HonestLife.{KeepsSegments, NoneIsRefusedAs, PartGoesOn, reached_position, store_at_end, store_behind}
+use Rattle.mm_life.specs.HonestLife.{BasicLifeGoesOn, OptLifeGoesOn}
+use Rattle.mm_life.specs.LifeWrites.{BasicLivesWriteOnce}
+use Rattle.mm_life.specs.OneStore.{LifeStanding, LivesOnOneStore, stages_around_loss}
+use Rattle.mm_life.specs.Premises.{IsNoCall, HistoryStays, life_batches, life_messages, opt_messages, others_values, register_messages}
+use Rattle.mm_life.specs.Premises.{has_open_segment}
+use Rattle.mm_life.specs.Stages.{LifeFollows, PartSteps, SessionSteps, Does, Holds, IsLife, LifePart, PartLeads, Program, LifeStage, end_of}
+use Rattle.mm_life.specs.Stages.{life_calls, part_calls, program_standing, session_stage}
+use Rattle.mm_life.proofs.BasicLife as basic_proofs
+use Rattle.mm_life.proofs.Chains.{session_chain, AreListed}
 use Rattle.mm_life.proofs.HonestSession.{AreStill, goes_on}
+use Rattle.mm_life.proofs.Idling.{open_told}
 use Rattle.mm_life.proofs.Living.{AreSeen, LifeLaws, listed_left, listed_right}
-use Rattle.mm_life.proofs.OneCall.{AreListed}
+use Rattle.mm_life.proofs.OptLife as opt_proofs
+use Rattle.mm_life.proofs.Refusing.{basic_never_lost, never_spoiled, opt_never_lost}
 use Rattle.mm_life.proofs.Sessions.{chain_leads, ends_reach}
 
 -- what waits is the next request or the last
@@ -309,3 +322,88 @@ module _ {all others : List (List ℕ)} {asked : List Batch} {i : Instance} {IsS
         told = r.told;
         fits = r.fits;
       }
+
+-- A first start, a session, a loss of power, and a session over the same store, over any devices.
+
+-- its stages
+abbrev stages_over : (old new : LifeStanding) (started : Devices) (middle empty : Standing) (between : StoreStanding)
+    (told : Option (List ℕ)) (one two : Result Unit SessionFault) → List LifeStage
+stages_over old new started middle empty between told one two =
+    stages_around_loss (session_stage (program_standing started.store old.first old.received) (program_standing between new.first told)
+    one middle) empty
+    (session_stage (program_standing between old.second told) (program_standing new.devices.store new.second new.received) two
+    new.devices.platform)
+
+pub lives_on_one_store : BasicLifeGoesOn → BasicLivesWriteOnce → (meaning : Meaning) → IsLawful meaning → (old new : LifeStanding)
+    (started : Devices) → InstanceBegins Basic meaning old.devices started → (middle empty : Standing) (between : StoreStanding)
+    (told : Option (List ℕ)) (one two : Result Unit SessionFault)
+    → IsLife Basic meaning started.platform (stages_over old new started middle empty between told one two)
+    → LivesOnOneStore meaning old new one two
+lives_on_one_store law counted meaning lawful old new started begun middle empty between told one two life = record {
+  started = started;
+  begun = begun;
+  middle = middle;
+  empty = empty;
+  between = between;
+  told = told;
+  stages = stages_over old new started middle empty between told one two;
+  are = refl;
+  life = life;
+  goes = λ cell slots here honest shown whole whole'.
+      let i : Instance = basic_instance meaning (take 32 begun.secrets) in
+      let stages : List LifeStage = stages_over old new started middle empty between told one two in
+      let stands = begun.stands cell [] here refl in
+      elim (clash_or i (life_messages i started.platform stages life) [] (life_batches i started.platform stages life)) [
+        | inl clash ↦ inr clash
+        | inr fine ↦
+            let gone =
+            law meaning lawful (take 32 begun.secrets) started.platform started.store stages life stands (begun.honest ∙ honest)
+            (begun.stores slots honest shown) ((refl, refl), (tt, ((refl, refl), tt))) fine.0 (
+              (λ is waiting waits slots shown. absurd (whole is)),
+              (tt, ((λ is waiting waits slots shown. absurd (whole' is)), tt)),
+            ) in
+            inl (gone, counted meaning (take 32 begun.secrets) _ started.platform stages life gone.after stands gone.follows)
+      ];
+}
+
+-- A life over the store of a first start is gone on with, in each variant.
+
+pub basic_goes_on : BasicLifeGoesOn
+basic_goes_on meaning lawful key start kept stages f stands honest told over clear chance =
+    let i : Instance = basic_instance meaning key in
+    let all : List (List ℕ) = life_messages i start stages f in
+    let asked : List Batch = life_batches i start stages f in
+    let itself = each_self [] all in
+    let first = is_first Basic meaning key i.barrier [] lawful in
+    let g = life_goes (basic_proofs.basic_life meaning lawful key all asked clear) stages first_history kept (first_slots i) start f
+    honest told stands
+    (basic_proofs.first_within meaning lawful key all asked itself.0) first.fits over
+    (basic_proofs.all_seen meaning lawful key all asked clear start stages f) chance
+    (record { messages = itself.1; batches = each_self [] asked }) in
+    gone_from_none g (λ keeps. basic_never_lost meaning key all [] asked stages start f [] g.after g.goes)
+    (λ none. never_spoiled all [] asked i none stages start f [] g.after g.goes)
+
+pub opt_goes_on : OptLifeGoesOn
+opt_goes_on meaning lawful key barrier values start kept stages f stands honest told over clear apart chance =
+    let i : Instance = opt_instance meaning key barrier in
+    let all : List (List ℕ) = opt_messages i start stages f in
+    let asked : List Batch = life_batches i start stages f in
+    let others : List (List ℕ) = others_values i start stages f in
+    let front : List (List ℕ) = life_messages i start stages f in
+    let back : List (List ℕ) = register_messages i start stages f in
+    let itself = each_self [] all in
+    let calls = each_left (Contains all) front back itself in
+    let first = is_first Opt meaning key barrier values lawful in
+    let seen = each_right (Contains all) front back itself in
+    let y : History = first_history_on values in
+    let g = life_goes (opt_proofs.opt_life meaning lawful key barrier all others asked clear apart) stages
+    y kept (first_slots i) start f honest told stands
+    (opt_proofs.opt_first_within meaning lawful key barrier values all others asked calls.0) first.fits over
+    (opt_proofs.all_seen meaning lawful key barrier all others asked clear apart start stages f seen (each_self [] others)) chance
+    (record { messages = calls.1; batches = each_self [] asked }) in
+    let shut : has_open_segment start ≡ false =
+    open_told start false (record { cell = cell_of i y; is_cell = stands.spells; tells = stands.cell; shows = refl }) in
+    gone_from_none g
+    (λ keeps. opt_never_lost meaning key barrier all others asked clear stages kept start f (digests_of i y) (stands_at i start y stands) []
+    g.after g.goes seen keeps over (λ e. let clash : true ≡ false = sym e ∙ shut in absurd (cc)))
+    (λ none. never_spoiled all others asked i none stages start f [] g.after g.goes)

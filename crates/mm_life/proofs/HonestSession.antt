@@ -7,28 +7,23 @@ use Rattle.mm_platform.specs.Standing.{Standing}
 use Rattle.mm_module.specs.Batch.{Batch}
 use Rattle.mm_module.specs.Meaning.{Meaning}
 use Rattle.mm_model.specs.History.{History}
-use Rattle.mm_model.specs.Instance.{Instance}
+use Rattle.mm_model.specs.Chains.{Instance}
 use Rattle.mm_model.specs.Standing.{StandsFor}
 use Rattle.mm_call.specs.CallPremises.{IsWithin}
-use Rattle.mm_call.specs.Untouched.{batch_answer_of, batch_result_of}
-use Rattle.mm_store.specs.Calls.{ReadsSlot}
-use Rattle.mm_store.specs.StoreStanding.{StoreStanding}
+use Rattle.mm_call.specs.CallFinding.{batch_answer_of, batch_result_of}
+use Rattle.mm_store.specs.StoreStanding.{ReadsSlot, StoreStanding, Slots, slot_front}
 use Rattle.mm_store.specs.PendingRecord.{PendingRecord}
-use Rattle.mm_store.specs.Slots.{Slots, slot_front}
 use Rattle.mm_store.specs.declared.fault.StoreFault.{StoreFault}
-use Rattle.mm_recovery.specs.Faults.{store_fault_as}
-use Rattle.mm_recovery.specs.HostStanding.{HostStanding, host_standing}
-use Rattle.mm_recovery.specs.SlotFit.{FitsBy, FitsHistory, first_offer, offer_slot}
-use Rattle.mm_recovery.specs.NextRequest.{HostGoesAfterRecord}
-use Rattle.mm_recovery.specs.Resumption.{HostGoesAfterFinding, HostGoesAfterOffer, result_of_start}
-use Rattle.mm_recovery.specs.WaitingRequest.{IsWaiting}
+use Rattle.mm_recovery.specs.CellWrites.{store_fault_as}
+use Rattle.mm_recovery.specs.HostStanding.{HostStanding, host_standing, FitsBy, FitsHistory, first_offer, offer_slot, HostGoesAfterRecord}
+use Rattle.mm_recovery.specs.HostStanding.{HostGoesAfterFinding, HostGoesAfterOffer, result_of_start, IsWaiting}
 use Rattle.mm_recovery.specs.declared.fault.HostFault.{HostFault}
 use Rattle.mm_recovery.specs.declared.resuming.Resumed.{Resumed}
 use Rattle.mm_recovery.proofs.Above.{IsMade, MadeOf, Saw, one_waiting, saw_two}
 use Rattle.mm_host.specs.AnySlots.{AreAskedInTurn, history_after_answer, offer_after}
 use Rattle.mm_host.specs.Continuation.{ContinuesTo, IsInHand, served_calls_in}
-use Rattle.mm_host.specs.SessionStanding.{SessionStanding, host_of, session_standing}
-use Rattle.mm_host.specs.Sessions.{SessionGoesAfterResume, SessionPlace, ServedCall, ServesAllLines, IsSession, served_lines}
+use Rattle.mm_host.specs.Sessions.{SessionStanding, host_of, session_standing, SessionGoesAfterResume, SessionPlace, ServedCall}
+use Rattle.mm_host.specs.Sessions.{ServesAllLines, IsSession, served_lines}
 use Rattle.mm_host.specs.declared.fault.SessionFault.{SessionFault}
 use Rattle.mm_host.specs.declared.fault.SessionFault.TheVariants.{Host, Lines}
 use Rattle.mm_host.proofs.Above.{AreMade, CallsInTurn, IsLineAsked, IsWritten, Laws, Shows, StandsIn, calls_reach, continues_by, May}
@@ -41,13 +36,11 @@ use Rattle.mm_host.proofs.Above.{by_told, fits_room, unspoiled, store_untold}
 use Rattle.mm_base.specs.declared.replay_fault.ReplayFault.TheVariants.{WriteFault}
 use Rattle.mm_host.specs.declared.fault.SessionFault.TheVariants.{Lines}
 use Rattle.mm_host.specs.Continuation.{last_bytes_in}
-use Rattle.mm_life.specs.OneList.{SessionSteps}
+use Rattle.mm_life.specs.Stages.{SessionSteps}
 use Rattle.mm_module.specs.Batch.{batch_text}
-use Rattle.mm_life.specs.Deeds.{LifeCall, call_of}
-use Rattle.mm_life.specs.SessionCalls.{bytes_of, first_bytes, first_calls, found_host, found_record, IsInHandOf, last_calls, offered_calls}
-use Rattle.mm_life.specs.SessionCalls.{offer_after_finding, recorded_calls, session_calls, told_calls, untold_calls}
-use Rattle.mm_life.proofs.Chains.{Chain, Ends, rests, session_chain, stops}
-use Rattle.mm_life.proofs.OneCall.{AreListed, makes_call}
+use Rattle.mm_life.specs.Deeds.{LifeCall, call_of, bytes_of, first_bytes, first_calls, found_host, found_record, IsInHandOf, last_calls}
+use Rattle.mm_life.specs.Deeds.{offered_calls, offer_after_finding, recorded_calls, session_calls, told_calls, untold_calls}
+use Rattle.mm_life.proofs.Chains.{Chain, Ends, rests, session_chain, stops, AreListed, makes_call}
 use Rattle.mm_life.proofs.Sessions.{AreIdle, ends_reach, listed_first, listed_rest}
 
 -- what was asked, by the calls that were made

@@ -10,35 +10,27 @@ use Rattle.mm_platform.specs.Standing.{Standing}
 use Rattle.mm_platform.specs.declared.fault.StepFault.{StepFault}
 use Rattle.mm_module.specs.Batch.{Batch, normal_batch}
 use Rattle.mm_module.specs.Meaning.{Meaning}
-use Rattle.mm_model.specs.History.{RegisterEntry, Foreign, History, Move}
-use Rattle.mm_model.specs.Instance.{Instance}
-use Rattle.mm_model.specs.InstanceWords.{opt_instance}
+use Rattle.mm_model.specs.History.{RegisterEntry, Foreign, History, Move, ask_steps, total_of}
+use Rattle.mm_model.specs.Chains.{Instance, opt_instance}
 use Rattle.mm_model.specs.Verdicts.{is_last, verdict_by_tests}
-use Rattle.mm_model.specs.Life.{Life, is_lost, life_of}
+use Rattle.mm_model.specs.Standing.{Life, is_lost, life_of, StandsFor}
 use Rattle.mm_recovery.specs.CellWrites.{TellsFlag}
 use Rattle.mm_seal.specs.Cell.{cell_spelling, flag_byte}
 use Rattle.mm_seal.specs.declared.cell.Cell.{Cell}
 use Rattle.mm_seal.specs.Parts.{parts_of}
-use Rattle.mm_life.specs.IdleParts.{flag_in, has_open_segment}
+use Rattle.mm_life.specs.Premises.{flag_in, has_open_segment}
 use Rattle.mm_model.specs.Moves.{Digests, digests_of}
-use Rattle.mm_model.specs.Standing.{StandsFor}
-use Rattle.mm_model.specs.Steps.{ask_steps}
 use Rattle.mm_model.specs.declared.answer.BatchAnswer.{BatchAnswer}
 use Rattle.mm_model.specs.declared.refusal.Refusal.{Refusal}
 use Rattle.mm_model.specs.declared.refusal.Refusal.TheVariants.{Device, Memory}
 use Rattle.mm_model.specs.declared.refusal.Refusal.TheVariants as refusal
-use Rattle.mm_call.specs.CallPremises.{IsAsked, counted_moves, moves_from_reset}
-use Rattle.mm_call.specs.CallOutcome.{call_outcome, call_ending_by, result_of_ending, state_seen}
-use Rattle.mm_call.specs.CallOnCourse.{IsCallOnCourse}
-use Rattle.mm_call.specs.Courses.{walk}
-use Rattle.mm_call.specs.CallFinding.{CallFinding, finding_at, finding_by_verdict}
-use Rattle.mm_call.specs.CallFindingWords.{finding_unless_wanting, is_fresh}
-use Rattle.mm_call.specs.Levels.{Level, digest_level, list_level}
-use Rattle.mm_call.specs.Premises.{AreAsked, IsIdle}
-use Rattle.mm_call.specs.Refusals.{fault_of}
-use Rattle.mm_call.specs.ShowingLaws.{asked_by}
+use Rattle.mm_call.specs.CallPremises.{IsAsked, counted_moves, moves_from_reset, AreAsked, IsIdle}
+use Rattle.mm_call.specs.CallOutcome.{call_outcome, call_ending_by, result_of_ending, state_seen, walk}
+use Rattle.mm_call.specs.CallKind.{IsCallOnCourse}
+use Rattle.mm_call.specs.CallFinding.{CallFinding, finding_at, finding_by_verdict, finding_unless_wanting, is_fresh, Level, digest_level}
+use Rattle.mm_call.specs.CallFinding.{list_level, fault_of}
+use Rattle.mm_call.specs.OfferLaws.{asked_by}
 use Rattle.mm_call.proofs.Above.{Brought, reads_only, sight_is, stands_at, life_bare}
-use Rattle.mm_model.specs.History.{total_of}
 use Rattle.mm_module.specs.Batch.{size_of}
 
 -- told as a repeat, or refused neither for a device's fault nor for want of memory

@@ -7,24 +7,22 @@ use Rattle.std.proofs.Common.{Bool, true, false}
 use Rattle.std.proofs.lemmas.Slice.Eq.{bytes_eq-Decides}
 use Rattle.mm_digest.specs.Messages.{extended_message, zero_bytes}
 use Rattle.mm_digest.specs.declared.variant.Variant.TheVariants.{Opt}
-use Rattle.mm_seal.specs.SealLaws.{sealed_parts}
+use Rattle.mm_seal.specs.FieldLaws.{sealed_parts}
 use Rattle.mm_seal.specs.Snapshot.{Content, IsContent, Snapshot, tag_of}
 use Rattle.mm_seal.specs.declared.snapshot.PartsFault.{PartsFault}
 use Rattle.mm_platform.specs.Standing.{Standing}
-use Rattle.mm_module.specs.RunLaws.{state_after-is_spelled}
-use Rattle.mm_model.specs.Chains.{guard}
+use Rattle.mm_module.specs.RunLaws.{state_after-is_spelled, counter_is_lawful}
+use Rattle.mm_model.specs.Chains.{guard, opt_instance, Instance, basic_instance}
 use Rattle.mm_model.specs.History.{History}
-use Rattle.mm_model.specs.InstanceWords.{opt_instance}
 use Rattle.mm_model.specs.Messages.{AreNoGuards}
-use Rattle.mm_model.specs.Places.{content_of_issue}
+use Rattle.mm_model.specs.Standing.{content_of_issue, issued_bytes}
 use Rattle.mm_model.specs.declared.answer.Answer.{Answer}
 use Rattle.mm_call.specs.OfferLaws.{opt_content}
-use Rattle.mm_call.specs.ShownItems.{foreign_items}
-use Rattle.mm_outcome.specs.WorldState.{world_barrier}
+use Rattle.mm_call.specs.CallPremises.{foreign_items, right_messages}
+use Rattle.mm_outcome.specs.OneRun.{world_barrier}
 use Rattle.mm_recovery.specs.FirstStart.{IsFirstStore, first_history_on}
-use Rattle.mm_life.specs.IdleParts.{is_idle}
-use Rattle.mm_life.specs.OneRequest.{OptRequestMeetsPremises, ShowsGuardAlone, one_session}
-use Rattle.mm_life.specs.Premises.{life_batches, life_messages, opt_messages, shown_messages}
+use Rattle.mm_life.specs.Premises.{is_idle, life_batches, life_messages, opt_messages, shown_messages, IsFirstUntagged, call_messages}
+use Rattle.mm_life.specs.OneStore.{OptRequestMeetsPremises, ShowsGuardAlone, one_session, OneRequestMeetsPremises, add_five}
 use Rattle.std.specs.Io.KnownBytes.{Consumes, IsAtEnd}
 use Rattle.std.specs.List.{AllByRecursion, Contains}
 use Rattle.std.proofs.Common.{◌≡◌, ◌∙◌, ◌⊎◌, ℕ, List, [], ◌∷◌, ◌++◌, Option, None, Some, Result, Ok, Err, arith, refl, sym, ap, subst, inl, inr}
@@ -37,48 +35,34 @@ use Rattle.mm_digest.specs.Messages.{start_message}
 use Rattle.mm_digest.specs.declared.variant.Variant.{Variant}
 use Rattle.mm_digest.specs.declared.variant.Variant.TheVariants.{Basic}
 use Rattle.mm_module.specs.Batch.{Batch, One, normal_batch}
-use Rattle.mm_module.specs.CounterLaws.{counter_is_lawful}
-use Rattle.mm_module.specs.CounterTable.{counter}
-use Rattle.mm_module.specs.Meaning.{Meaning}
-use Rattle.mm_model.specs.FitLaws.{sealed_snapshot_of-most}
+use Rattle.mm_module.specs.Meaning.{counter, Meaning}
+use Rattle.mm_model.specs.FormLaws.{sealed_snapshot_of-most}
 use Rattle.mm_model.specs.History.{first_history}
-use Rattle.mm_model.specs.Instance.{Instance}
-use Rattle.mm_model.specs.InstanceWords.{basic_instance}
 use Rattle.mm_model.specs.ListLaws.{each_append, each_left, each_self}
 use Rattle.mm_model.specs.Messages.{AreMessagesIn, IsClear}
-use Rattle.mm_model.specs.Standing.{issued_bytes}
 use Rattle.mm_call.specs.CallFinding.{right_content}
 use Rattle.mm_call.specs.OfferLaws.{basic_content}
-use Rattle.mm_call.specs.CallPremises.{right_messages}
 use Rattle.mm_outcome.specs.Laws.{one_ask}
 use Rattle.mm_outcome.specs.Premises.{IsClearRun, IsGenuineRun, run_messages}
 use Rattle.mm_outcome.proofs.Above.{clear_within}
 use Rattle.mm_store.specs.PendingRecord.{PendingRecord}
-use Rattle.mm_store.specs.Slots.{Slots, longest_slot, slot_front}
+use Rattle.mm_store.specs.StoreStanding.{Slots, longest_slot, slot_front}
 use Rattle.mm_store.proofs.Above.{longest_slot-is}
 use Rattle.mm_store.specs.declared.fault.StoreFault.{StoreFault}
 use Rattle.mm_recovery.specs.FirstStart.{first_slots}
-use Rattle.mm_recovery.specs.HostStanding.{HostStanding}
-use Rattle.mm_recovery.specs.NextRequest.{HostGoesAfterRecord}
-use Rattle.mm_recovery.specs.Resumption.{HostGoesAfterFinding}
-use Rattle.mm_recovery.specs.SlotFit.{first_offer}
-use Rattle.mm_recovery.specs.WaitingRequest.{IsWaiting}
+use Rattle.mm_recovery.specs.HostStanding.{HostStanding, HostGoesAfterRecord, HostGoesAfterFinding, first_offer, IsWaiting}
 use Rattle.mm_recovery.specs.declared.fault.HostFault.{HostFault}
 use Rattle.mm_recovery.specs.declared.resuming.Resumed.{Resumed}
 use Rattle.mm_recovery.specs.declared.resuming.Resumed.TheVariants.{Answered}
 use Rattle.mm_recovery.proofs.Above.{is_first, one_waiting, saw_two}
 use Rattle.mm_host.specs.Continuation.{served_calls_in}
-use Rattle.mm_host.specs.SessionStanding.{SessionStanding, host_of}
-use Rattle.mm_host.specs.Sessions.{BytesBeginWith, IsSession, ServedCall, ServesAllLines, ServesCalls, SessionGoesAfterResume, SessionPlace}
-use Rattle.mm_host.specs.Sessions.{served_lines}
+use Rattle.mm_host.specs.Sessions.{SessionStanding, host_of, BytesBeginWith, IsSession, ServedCall, ServesAllLines, ServesCalls}
+use Rattle.mm_host.specs.Sessions.{SessionGoesAfterResume, SessionPlace, served_lines}
 use Rattle.mm_host.specs.declared.fault.SessionFault.{SessionFault}
 use Rattle.mm_host.specs.declared.fault.SessionFault.TheVariants.{Host, Lines}
-use Rattle.mm_life.specs.Deeds.{LifeCall, call_of}
+use Rattle.mm_life.specs.Deeds.{LifeCall, call_of, IsFirstOffered, first_bytes, first_calls, found_host, found_record, last_calls}
+use Rattle.mm_life.specs.Deeds.{recorded_calls, served_calls_of, session_calls, told_calls, untold_calls}
 use Rattle.mm_life.specs.Laws.{OffersSlots, SessionsOfferSlots}
-use Rattle.mm_life.specs.OneRequest.{OneRequestMeetsPremises, add_five}
-use Rattle.mm_life.specs.Premises.{IsFirstUntagged, call_messages}
-use Rattle.mm_life.specs.SessionCalls.{IsFirstOffered, first_bytes, first_calls, found_host, found_record, last_calls, recorded_calls}
-use Rattle.mm_life.specs.SessionCalls.{served_calls_of, session_calls, told_calls, untold_calls}
 
 -- Nothing waits in slots where none is shown.
 

@@ -5,14 +5,12 @@ use Rattle.std.proofs.Common.{◌∙◌, ◌≡◌, ◌++◌, ap, ℕ, List, Opt
 use Rattle.mm_bytes.specs.declared.fault.Failed.{Failed}
 use Rattle.mm_digest.specs.declared.variant.Variant.{Variant}
 use Rattle.mm_digest.specs.declared.variant.Variant.TheVariants.{Opt}
-use Rattle.mm_platform.specs.Standing.{Item, Standing, foreign_item, item_values}
-use Rattle.mm_platform.specs.Steps.{items_beside}
+use Rattle.mm_platform.specs.Standing.{Item, Standing, foreign_item, item_values, items_beside}
 use Rattle.mm_platform.specs.declared.fault.StepFault.{StepFault}
 use Rattle.mm_module.specs.Meaning.{IsLawful, Meaning}
 use Rattle.mm_module.specs.Batch.{Batch}
 use Rattle.mm_model.specs.History.{History}
-use Rattle.mm_model.specs.Instance.{Instance}
-use Rattle.mm_model.specs.InstanceWords.{opt_instance}
+use Rattle.mm_model.specs.Chains.{Instance, opt_instance}
 use Rattle.mm_model.specs.Moves.{digests_of}
 use Rattle.mm_model.specs.Standing.{StandsFor}
 use Rattle.mm_call.proofs.Above.{stands_at}
@@ -21,17 +19,17 @@ use Rattle.mm_opt.specs.declared.segment.Checkpointed.{Checkpointed}
 use Rattle.mm_store.specs.StoreStanding.{StoreStanding}
 use Rattle.mm_store.specs.declared.fault.StoreFault.{StoreFault}
 use Rattle.mm_evidence.proofs.Above.{clash_or}
-use Rattle.mm_recovery.specs.FirstStart.{InstanceBegins}
+use Rattle.mm_recovery.specs.FirstStart.{InstanceBegins, GoesAfterLooking, GoesAfterAllPuts, GoesAfterTaking, Devices, InitGoes, SetsUp}
+use Rattle.mm_recovery.specs.FirstStart.{host_among, instance_from}
 use Rattle.mm_recovery.specs.HostStanding.{HostStanding}
-use Rattle.mm_recovery.specs.Init.{GoesAfterLooking, GoesAfterAllPuts, GoesAfterTaking, Devices, InitGoes, SetsUp, host_among, instance_from}
 use Rattle.mm_host.specs.declared.fault.SessionFault.{SessionFault}
 use Rattle.mm_life.specs.HonestLife.{IsGoneOnWith, OptLifeGoesOn}
 use Rattle.mm_life.specs.OneStore.{IsUnlost, LifeStanding, LivesOverCheckpoint, stages_around}
 use Rattle.mm_life.specs.Premises.{life_batches, opt_messages, others_values}
 use Rattle.mm_life.specs.Stages.{Holds, IsLife, Program, LifeStage, program_standing, session_on, session_stage}
 use Rattle.mm_life.specs.LifeWrites.{OptLivesWriteOnce}
-use Rattle.mm_life.proofs.Standings.{part_stands}
-use Rattle.mm_life.proofs.Unlost.{shut_behind, still_open, unlost}
+use Rattle.mm_life.proofs.Refusing.{part_stands}
+use Rattle.mm_life.proofs.ClosingCounts.{shut_behind, still_open, unlost}
 
 -- A register that was told is told behind a first start.
 pub record Told (standing : Standing) : Type 0 where

@@ -7,50 +7,42 @@ use Rattle.std.proofs.Common.{subst, inl, inr}
 use Rattle.mm_digest.specs.Messages.{extended_digest_of, start_message}
 use Rattle.mm_digest.specs.declared.variant.Variant.TheVariants.{Opt}
 use Rattle.mm_seal.specs.Snapshot.{Content}
-use Rattle.mm_platform.specs.Standing.{Item, Standing, foreign_item}
-use Rattle.mm_platform.specs.Steps.{items_beside}
+use Rattle.mm_platform.specs.Standing.{Item, Standing, foreign_item, items_beside}
 use Rattle.mm_module.specs.Batch.{Batch, One, normal_batch}
 use Rattle.mm_module.specs.Meaning.{IsLawful, Meaning}
 use Rattle.mm_model.specs.FormLaws.{reads_zero}
 use Rattle.mm_model.specs.History.{Foreign, History, Power, Value, first_history, history_after, register_value_of}
-use Rattle.mm_model.specs.Instance.{Instance}
-use Rattle.mm_model.specs.InstanceWords.{opt_instance}
+use Rattle.mm_model.specs.Chains.{Instance, opt_instance}
 use Rattle.mm_model.specs.ListLaws.{each_left, each_right, each_self}
 use Rattle.mm_model.specs.Messages.{AreNoGuards, IsClear, AreMessagesIn}
 use Rattle.mm_model.specs.Moves.{Digests, digests_of}
-use Rattle.mm_model.specs.Places.{NamesPosition}
-use Rattle.mm_model.specs.Sound.{IsSound}
-use Rattle.mm_model.specs.Standing.{IsGenuine, StandsFor, cell_of, issued_bytes}
+use Rattle.mm_model.specs.Standing.{NamesPosition, IsSound, IsGenuine, StandsFor, cell_of, issued_bytes}
 use Rattle.mm_model.specs.declared.answer.BatchAnswer.{BatchAnswer}
 use Rattle.mm_model.specs.declared.refusal.Refusal.{Refusal}
 use Rattle.mm_model.specs.declared.refusal.Refusal.TheVariants.{Device, Memory}
-use Rattle.mm_call.specs.Untouched.{batch_result_of}
+use Rattle.mm_call.specs.CallFinding.{batch_result_of, state_after_moves, digest_level, list_level}
 use Rattle.mm_model.proofs.Above.{opt_issued}
-use Rattle.mm_call.specs.CallPremises.{IsWithin, messages_of_moves}
-use Rattle.mm_call.specs.Levels.{state_after_moves, digest_level, list_level}
+use Rattle.mm_call.specs.CallPremises.{IsWithin, messages_of_moves, AreAsked, AreShown, foreign_items, standing_items}
 use Rattle.mm_call.specs.OfferLaws.{issued_once, opt_content}
-use Rattle.mm_call.specs.CallOnCourse.{IsCallOnCourse}
+use Rattle.mm_call.specs.CallKind.{IsCallOnCourse}
 use Rattle.mm_call.specs.WalkLaws.{asks}
-use Rattle.mm_call.specs.Premises.{AreAsked, AreShown}
 use Rattle.mm_call.specs.Standing.{StandsAt}
-use Rattle.mm_call.specs.ShownItems.{foreign_items, standing_items}
 use Rattle.mm_call.specs.TrailLaws.{foreign_made, foreign_values, reads_beside, register_of_items, with_register}
 use Rattle.mm_call.specs.WalkLaws.{history_with_values, taking_is}
 use Rattle.mm_call.proofs.Above.{agrees_is, bare, counted_open, foreign_agrees, foreign_all, holds_made, holds_moved, holds_open, is_agrees}
 use Rattle.mm_call.proofs.Above.{names_alike, power_fine, stands_at, stands_for, within_items, within_of}
-use Rattle.mm_opt.specs.CheckpointOnCourse.{IsCheckpointOnCourse}
-use Rattle.mm_callers.specs.Closing.{MayClose}
+use Rattle.mm_opt.specs.CheckpointPromise.{IsCheckpointOnCourse}
+use Rattle.mm_callers.specs.Opt.{MayClose}
 use Rattle.mm_callers.proofs.Above.{check_goes_on, check_leaves}
 use Rattle.mm_recovery.proofs.Above.{BatchMet, opt_batch_met, opt_batch_met_idle}
 use Rattle.mm_host.proofs.Above.{Reaches, ShowsAt, foreign_of, messages_looked, opt_laws, opt_reach}
 use Rattle.mm_recovery.specs.FirstStart.{first_history_on}
 use Rattle.mm_life.specs.Below.{CheckpointRefusal, Checkpointed}
 use Rattle.mm_life.specs.Deeds.{LifeCall, Calls, Checkpoints, Deed, DeedLeads, Extends, LosesPower}
-use Rattle.mm_life.specs.IdleParts.{has_open_segment, is_idle, is_old}
+use Rattle.mm_life.specs.Premises.{has_open_segment, is_idle, is_old, closing_messages, life_batches, life_messages, opt_messages}
+use Rattle.mm_life.specs.Premises.{others_values, register_messages, shown_messages, bytes_unless_idle, IsNoCall, IsSeen, OptDeedsStay}
+use Rattle.mm_life.specs.Premises.{HistoryStays}
 use Rattle.mm_life.specs.Laws.{OptLifeIsOne}
-use Rattle.mm_life.specs.Premises.{closing_messages, life_batches, life_messages, opt_messages, others_values}
-use Rattle.mm_life.specs.Premises.{register_messages, shown_messages, bytes_unless_idle}
-use Rattle.mm_life.specs.DeedHistory.{IsNoCall, IsSeen, OptDeedsStay, HistoryStays}
 use Rattle.mm_life.specs.Stages.{Does, IsLife, LifePart, LifeStage, part_calls}
 use Rattle.mm_life.proofs.Idling.{IsNotNew, is_idle_where, open_told}
 use Rattle.mm_life.proofs.Living.{AreSeen, LifeLaws, lives}

@@ -9,21 +9,16 @@ use Rattle.mm_seal.specs.Cell.{IsCell, cell_spelling}
 use Rattle.mm_seal.specs.declared.cell.Cell.{Cell}
 use Rattle.mm_platform.specs.Standing.{Item, Standing, item_values, register_after}
 use Rattle.mm_module.specs.Meaning.{Meaning}
-use Rattle.mm_model.specs.ChainLaws.{after-append}
-use Rattle.mm_model.specs.Chains.{digest_after, register_of}
-use Rattle.mm_model.specs.DigestLaws.{register_folds}
+use Rattle.mm_model.specs.ListLaws.{after-append, register_folds}
+use Rattle.mm_model.specs.Chains.{digest_after, register_of, Instance, opt_instance}
 use Rattle.mm_model.specs.FormLaws.{reads_zero}
 use Rattle.mm_model.specs.History.{History, first_history, register_value_of}
-use Rattle.mm_model.specs.Instance.{Instance}
-use Rattle.mm_model.specs.InstanceWords.{opt_instance}
 use Rattle.mm_model.specs.Messages.{AreMessagesIn}
 use Rattle.mm_model.specs.Standing.{StandsFor, cell_of}
-use Rattle.mm_call.specs.CallPremises.{counted_part}
-use Rattle.mm_call.specs.Premises.{AreShown}
+use Rattle.mm_call.specs.CallPremises.{counted_part, AreShown}
 use Rattle.mm_call.proofs.Above.{counted_open, shown_back, shown_shut}
-use Rattle.mm_callers.specs.Closing.{MayClose}
-use Rattle.mm_life.specs.Premises.{possible_closings, digest_in}
-use Rattle.mm_life.specs.DeedHistory.{IsSeen}
+use Rattle.mm_callers.specs.Opt.{MayClose}
+use Rattle.mm_life.specs.Premises.{possible_closings, digest_in, IsSeen}
 use Rattle.mm_life.specs.Stages.{LifePart}
 
 -- an empty register's value

@@ -1,55 +1,108 @@
--- Over one honest store no session is refused as Lost where power is lost in no open segment, nor as Stale where others extended nothing.
+-- Over one honest store no session is refused as Lost where power is lost in no open segment, nor
+-- as Stale where others extended nothing. With it: a platform that stands at digests stands at some
+-- behind each part of a life.
 use Rattle.std.specs.List.{Contains}
 use Rattle.std.specs.Option.{option_map}
 use Rattle.std.specs.Prelude.{◌&&◌, if◌then◌else◌, not}
 use Rattle.std.specs.Str.{bytes_eq}
-use Rattle.std.proofs.Common.{◌≡◌, ◌≢◌, ◌∙◌, ◌++◌, ℕ, Bool, true, false, List, [], ◌∷◌, Option, Some, map, Result, refl, sym}
-use Rattle.std.proofs.Common.{ap, subst}
+use Rattle.std.proofs.Common.{◌≡◌, ◌∙◌, ◌++◌, ℕ, List, [], ◌∷◌, Option, None, Some, map, refl, ap, ◌≢◌, Bool, true, false, Result, sym}
+use Rattle.std.proofs.Common.{subst}
 use Rattle.std.proofs.lemmas.Slice.Eq.{bytes_eq-Decides}
 use Rattle.mm_digest.specs.Messages.{zero_bytes}
+use Rattle.mm_digest.specs.declared.variant.Variant.{Variant}
 use Rattle.mm_digest.specs.declared.variant.Variant.TheVariants.{Basic, Opt}
-use Rattle.mm_platform.specs.Standing.{Item, Standing, foreign_item, item_values, register_after}
-use Rattle.mm_platform.specs.Steps.{items_beside}
+use Rattle.mm_platform.specs.Standing.{Item, Standing, foreign_item, item_values, register_after, items_beside}
 use Rattle.mm_module.specs.Batch.{Batch}
 use Rattle.mm_module.specs.Meaning.{Meaning}
-use Rattle.mm_model.specs.Chains.{register_of}
-use Rattle.mm_model.specs.DigestLaws.{register_folds, register_nonzero}
+use Rattle.mm_model.specs.Chains.{Instance, register_of, basic_instance, opt_instance}
 use Rattle.mm_model.specs.FormLaws.{reads_zero}
-use Rattle.mm_model.specs.History.{History, RegisterEntry, extension_value, register_value_of}
-use Rattle.mm_model.specs.Instance.{Instance}
-use Rattle.mm_model.specs.InstanceWords.{basic_instance, opt_instance}
-use Rattle.mm_model.specs.Life.{Life, Live, Lost, is_empty, is_lost, life_of}
-use Rattle.mm_model.specs.ListLaws.{each_left, each_right}
+use Rattle.mm_model.specs.History.{History, RegisterEntry, extension_value, register_value_of, Reads, checkpoint_steps}
+use Rattle.mm_model.specs.ListLaws.{register_folds, register_nonzero, each_left, each_right}
 use Rattle.mm_model.specs.Messages.{AreMessagesIn, IsClear, messages_of, register_trail}
 use Rattle.mm_model.specs.Moves.{Digests}
-use Rattle.mm_model.specs.Standing.{cell_of, register_reading}
-use Rattle.mm_model.specs.Steps.{Reads, checkpoint_steps}
+use Rattle.mm_model.specs.Standing.{Life, Live, Lost, is_empty, is_lost, life_of, cell_of, register_reading}
 use Rattle.mm_model.specs.declared.refusal.Refusal.TheVariants as refusal
 use Rattle.mm_model.proofs.Above.{lost_is_zero}
+use Rattle.mm_call.specs.CallFinding.{digest_level, state_after_moves}
+use Rattle.mm_call.specs.CallOutcome.{Done, End, Fails, StepFate, walk, walk_from_step}
 use Rattle.mm_call.specs.Checkpoints.{checkpoint_outcome}
-use Rattle.mm_call.specs.Courses.{Done, End, Fails, StepFate, walk, walk_from_step}
-use Rattle.mm_call.specs.Levels.{digest_level, state_after_moves}
-use Rattle.mm_call.specs.Standing.{StandsAt}
-use Rattle.mm_call.specs.TrailLaws.{foreign_made}
+use Rattle.mm_call.specs.Standing.{RegisterStandsAt, StandsAt, instance_by}
+use Rattle.mm_call.specs.TrailLaws.{register_of_items, with_register, foreign_made}
 use Rattle.mm_call.proofs.Above.{counted_open}
+use Rattle.mm_opt.specs.CheckpointPromise.{IsCheckpointOnCourse}
 use Rattle.mm_callers.proofs.Above.{check_goes_on}
-use Rattle.mm_opt.specs.CheckpointOnCourse.{IsCheckpointOnCourse}
 use Rattle.mm_recovery.specs.CellWrites.{TellsFlag}
 use Rattle.mm_recovery.proofs.Above.{not_lost}
 use Rattle.mm_host.specs.Continuation.{RefusesAs}
 use Rattle.mm_host.specs.declared.fault.SessionFault.{SessionFault}
+use Rattle.mm_host.proofs.Above.{chain_ends, some_chain}
 use Rattle.mm_life.specs.Below.{Checkpointed, CheckpointRefusal, StoreStanding}
-use Rattle.mm_life.specs.Deeds.{Calls, Checkpoints, Extends, LifeCall, LosesPower}
-use Rattle.mm_life.specs.HonestLife.{BeginsOver, GoesOnFrom, HasHistory, IsOverOneStore, store_behind}
-use Rattle.mm_life.specs.HonestLife.{IsNotRefusedAs, KeepsSegment, KeepsSegments, NoneIsRefusedAs, PartGoesOn}
-use Rattle.mm_life.specs.IdleParts.{has_nothing_new, has_open_segment}
-use Rattle.mm_life.specs.Premises.{bytes_unless_idle, closing_messages, register_messages, shown_messages}
-use Rattle.mm_life.specs.Stages.{Does, Holds, IsLife, LifePart, LifeStage, PartLeads, part_calls}
-use Rattle.mm_life.proofs.ClosingCounts.{flag_behind}
+use Rattle.mm_life.specs.Deeds.{Calls, Checkpoints, Deed, DeedLeads, Extends, LosesPower, LifeCall}
+use Rattle.mm_life.specs.HonestLife.{BeginsOver, GoesOnFrom, HasHistory, IsOverOneStore, store_behind, IsNotRefusedAs, KeepsSegment}
+use Rattle.mm_life.specs.HonestLife.{KeepsSegments, NoneIsRefusedAs, PartGoesOn}
+use Rattle.mm_life.specs.Premises.{has_nothing_new, has_open_segment, bytes_unless_idle, closing_messages, register_messages}
+use Rattle.mm_life.specs.Premises.{shown_messages}
+use Rattle.mm_life.specs.Stages.{Does, Holds, IsLife, LifePart, PartLeads, LifeStage, end_of, part_calls}
+use Rattle.mm_life.proofs.ClosingCounts.{flag_behind, still_open}
 use Rattle.mm_life.proofs.Idling.{open_told}
 use Rattle.mm_life.proofs.OptSeen.{items_told}
-use Rattle.mm_life.proofs.Standings.{part_stands}
-use Rattle.mm_life.proofs.Unlost.{still_open}
+
+-- A platform that stands at digests stands at some behind each part of a life.
+
+pub record StandsSomewhere (i : Instance) (standing : Standing) : Type 0 where
+  pub digests : Digests
+  pub stands : StandsAt i standing digests
+
+-- the register's value, where its items are still told
+reads_told : (variant : Variant) (old new : Option (List Item)) (r : List ℕ)
+    → ((items : List Item) → old ≡ Some items → (more : List Item) × (new ≡ Some more)) → RegisterStandsAt variant (register_of_items old) r
+    → (s : List ℕ) × RegisterStandsAt variant (register_of_items new) s
+reads_told Basic old new r told at = (r, tt)
+reads_told Opt None new r told at = absurd (cc)
+reads_told Opt (Some items) new r told at =
+    let t = told items refl in
+    (register_after (item_values t.0), ap (λ (xs : Option (List Item)). register_of_items xs) t.1)
+
+module _ (variant : Variant) (meaning : Meaning) (key barrier : List ℕ) where
+  abbrev pub I : Instance
+  I = instance_by variant meaning key barrier
+
+  -- where the cell is as before
+  stands_still : (old new : Standing) (d : Digests) → StandsAt I old d → new.cell ≡ old.cell
+      → ((items : List Item) → old.items ≡ Some items → (more : List Item) × (new.items ≡ Some more)) → StandsSomewhere I new
+  stands_still old new d s cell told =
+      let r = reads_told I.variant old.items new.items d.register told s.reads in
+      record {
+        digests = with_register d r.0;
+        stands = record { spells = s.spells; cell = cell ∙ s.cell; reads = r.1 };
+      }
+
+  pub deed_stands : (old : Standing) (deed : Deed) (new : Standing) → DeedLeads variant meaning old deed new → (d : Digests)
+      → StandsAt I old d → StandsSomewhere I new
+  deed_stands old (Calls c) new f d s = record { digests = _; stands = (f.goes.goes key barrier d s).stands }
+  deed_stands old (Extends values) new f d s =
+      stands_still old new d s f.0
+      (λ items e. (items ++ map foreign_item values, f.1 ∙ ap (λ (xs : Option (List Item)). items_beside values xs) e))
+  deed_stands old LosesPower new f d s =
+      stands_still old new d s f.0 (λ items e. ([], f.1 ∙ ap (λ (xs : Option (List Item)). option_map (λ _. []) xs) e))
+  deed_stands old (Checkpoints said) new f d s = record { digests = _; stands = (f.goes.goes variant meaning key barrier d s).stands }
+
+  pub part_stands : (old : Standing) (part : LifePart) (new : Standing) → PartLeads variant meaning old part new → (d : Digests)
+      → StandsAt I old d → StandsSomewhere I new
+  part_stands old (Holds p) new f d s =
+      let c = some_chain f in
+      let e = chain_ends variant meaning key barrier c.offer old new _ _ p.result c.chain d s in
+      record { digests = e.digests; stands = e.stands }
+  part_stands old (Does deed) new f d s = deed_stands old deed new f d s
+
+  pub life_stands : (start : Standing) (stages : List LifeStage) → IsLife variant meaning start stages → (d : Digests)
+      → StandsAt I start d → StandsSomewhere I (end_of start stages)
+  life_stands start [] f d s = record { digests = d; stands = s }
+  life_stands start (stage ∷ stages) f d s =
+      let here = part_stands start stage.part stage.after f.0 d s in
+      life_stands stage.after stages f.1 here.digests here.stands
+
+-- Over one honest store no session is refused as Lost where power is lost in no open segment, nor as Stale where others extended nothing.
 
 -- as Stale
 

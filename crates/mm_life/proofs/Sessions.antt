@@ -8,33 +8,29 @@ use Rattle.mm_platform.specs.Standing.{Standing}
 use Rattle.mm_module.specs.Batch.{Batch, One, normal_batch}
 use Rattle.mm_module.specs.Meaning.{Meaning}
 use Rattle.mm_model.specs.History.{History, requests_of}
-use Rattle.mm_model.specs.Instance.{Instance}
+use Rattle.mm_model.specs.Chains.{Instance}
 use Rattle.mm_model.specs.ListLaws.{each_append, each_left, each_right}
 use Rattle.mm_model.specs.Messages.{AreMessagesIn}
 use Rattle.mm_model.specs.Moves.{Digests}
-use Rattle.mm_model.specs.Places.{NamesPosition}
-use Rattle.mm_model.specs.Standing.{IsGenuine, StandsFor}
+use Rattle.mm_model.specs.Standing.{NamesPosition, IsGenuine, StandsFor}
 use Rattle.mm_model.specs.declared.answer.Answer.{Answer}
 use Rattle.mm_model.specs.declared.answer.BatchAnswer.{BatchAnswer}
 use Rattle.mm_model.specs.declared.refusal.Refusal.{Refusal}
-use Rattle.mm_call.specs.CallPremises.{IsWithin, right_messages}
-use Rattle.mm_call.specs.CallOnCourse.{IsCallOnCourse}
-use Rattle.mm_call.specs.CallFinding.{right_content}
-use Rattle.mm_call.specs.Untouched.{batch_answer_of, batch_result_of}
+use Rattle.mm_call.specs.CallPremises.{IsWithin, right_messages, IsIdle}
+use Rattle.mm_call.specs.CallKind.{IsCallOnCourse}
+use Rattle.mm_call.specs.CallFinding.{right_content, batch_answer_of, batch_result_of}
 use Rattle.mm_call.specs.Standing.{StandsAt}
-use Rattle.mm_call.specs.Premises.{IsIdle}
 use Rattle.mm_recovery.proofs.Above.{Met, grows}
 use Rattle.mm_host.specs.AnySlots.{offer_after}
 use Rattle.mm_host.specs.Continuation.{CallsRunOver}
 use Rattle.mm_host.specs.Sessions.{ServedCall}
 use Rattle.mm_host.specs.declared.fault.SessionFault.{SessionFault}
 use Rattle.mm_host.proofs.Above.{CallsInTurn, Laws, Makes, Reaches, Shows, calls_reach, line_committed, only_by, pending_for, reach_same, call_steps, same_requests, told_in_part}
-use Rattle.mm_life.specs.Deeds.{LifeCall, call_of}
-use Rattle.mm_life.specs.OneList.{IsLastJudged, SessionSteps}
+use Rattle.mm_life.specs.Deeds.{LifeCall, call_of, IsFirstOffered, told_calls}
+use Rattle.mm_life.specs.Stages.{IsLastJudged, SessionSteps}
 use Rattle.mm_life.specs.Premises.{issued_snapshot_in, snapshots_of}
-use Rattle.mm_life.specs.SessionCalls.{IsFirstOffered, told_calls}
-use Rattle.mm_life.proofs.Chains.{Chain, Ends, rests, stops}
-use Rattle.mm_life.proofs.OneCall.{AreListed, all_genuine, answer_steps, issue_genuine, issues_genuine, makes_call, met_judged}
+use Rattle.mm_life.proofs.Chains.{Chain, Ends, rests, stops, AreListed, all_genuine, answer_steps, issue_genuine, issues_genuine}
+use Rattle.mm_life.proofs.Chains.{makes_call, met_judged}
 
 -- the first of these calls offers what is genuine
 abbrev pub IsFirstGenuine : Instance → History → List LifeCall → Type 0

@@ -11,10 +11,8 @@ use Rattle.mm_model.specs.declared.refusal.Refusal.TheVariants as refusal
 use Rattle.mm_recovery.specs.declared.fault.HostFault.TheVariants.{Refused}
 use Rattle.mm_host.specs.declared.fault.SessionFault.TheVariants.{Host}
 use Rattle.mm_life.specs.Deeds.{Calls, LosesPower}
-use Rattle.mm_life.specs.IdleParts.{has_open_segment}
-use Rattle.mm_life.specs.OneList.{LifeFollows, SessionSteps}
-use Rattle.mm_life.specs.Premises.{life_batches, life_messages, opt_messages, others_values}
-use Rattle.mm_life.specs.Stages.{Does, Holds, IsLife, LifePart, PartLeads, LifeStage, end_of}
+use Rattle.mm_life.specs.Premises.{has_open_segment, life_batches, life_messages, opt_messages, others_values}
+use Rattle.mm_life.specs.Stages.{LifeFollows, SessionSteps, Does, Holds, IsLife, LifePart, PartLeads, LifeStage, end_of}
 
 -- A program's store shows what this one does, and is as honest; another deed is no call.
 abbrev pub BeginsOver : StoreStanding → LifePart → Type 0

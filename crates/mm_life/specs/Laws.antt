@@ -4,11 +4,9 @@ use Rattle.mm_life.specs.Below.{Variant, Basic, Opt, Standing, IsLawful, Meaning
 use Rattle.mm_life.specs.Below.{basic_instance, AreNoGuards, IsClear, StandsFor, issued_bytes, ModulePromises, tellings_in, Instance}
 use Rattle.mm_life.specs.Below.{opt_instance, Batch, first_history_on, StoreStanding, PendingRecord, Slots, slot_front, first_offer}
 use Rattle.mm_life.specs.Below.{IsWaiting, MayStart, SessionFault, SessionStanding, IsSession}
-use Rattle.mm_life.specs.SessionCalls.{IsFirstOffered, session_calls}
-use Rattle.mm_life.specs.Deeds.{LifeCall}
-use Rattle.mm_life.specs.OneList.{LifeFollows, IsOneWhole, life_replies}
+use Rattle.mm_life.specs.Deeds.{IsFirstOffered, session_calls, LifeCall}
+use Rattle.mm_life.specs.Stages.{LifeFollows, IsOneWhole, life_replies, IsLife, LifeStage, end_of, life_calls}
 use Rattle.mm_life.specs.Premises.{AreUntagged, IsUntagged, life_batches, life_messages, opt_messages, others_values, snapshots_of}
-use Rattle.mm_life.specs.Stages.{IsLife, LifeStage, end_of, life_calls}
 
 -- the first snapshot, and those that the calls of a life issued
 abbrev pub life_snapshots : (i : Instance) (start : Standing) (stages : List LifeStage)

@@ -1,17 +1,8 @@
 pub mod Below
 pub mod Deeds
-pub mod SessionCalls
 pub mod Stages
-pub mod OneList
-pub mod IdleParts
 pub mod Premises
 pub mod Laws
-pub mod DeedHistory
-pub mod DeviceDeeds
 pub mod HonestLife
 pub mod OneStore
 pub mod LifeWrites
-pub mod OneRequest
-pub mod PartsElsewhere
-pub mod BatchDeeds
-pub mod KilledPrograms

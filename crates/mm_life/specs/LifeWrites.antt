@@ -10,11 +10,9 @@ use Rattle.mm_platform.specs.declared.fault.StepFault.{StepFault}
 use Rattle.mm_recovery.specs.CellWrites.{is_open_after, new_requests_by, openings}
 use Rattle.mm_life.specs.Below.{Basic, Opt, Batch, size_of, Standing, Meaning, History, StandsFor, basic_instance, opt_instance, BatchAnswer, Refusal, fault_of}
 use Rattle.mm_life.specs.Below.{CheckpointRefusal, Checkpointed, HostFault, Reply, SessionFault}
-use Rattle.mm_life.specs.Deeds.{Calls, Checkpoints, Extends, LosesPower}
-use Rattle.mm_life.specs.IdleParts.{has_open_segment}
-use Rattle.mm_life.specs.OneList.{LifeFollows, call_replies, life_replies, told_replies}
-use Rattle.mm_life.specs.SessionCalls.{served_calls_of}
-use Rattle.mm_life.specs.Stages.{Does, Holds, IsLife, LifePart, LifeStage, PartLeads}
+use Rattle.mm_life.specs.Deeds.{Calls, Checkpoints, Extends, LosesPower, served_calls_of}
+use Rattle.mm_life.specs.Premises.{has_open_segment}
+use Rattle.mm_life.specs.Stages.{LifeFollows, call_replies, life_replies, told_replies, Does, Holds, IsLife, LifePart, LifeStage, PartLeads}
 
 -- The cell was to be written so often in a part of a life, by the platform's count; others, and a
 -- loss of power, write none.

@@ -1,19 +1,25 @@
 -- What a life over one store comes to, over any devices: a first start, a session, a loss of power,
--- and a session over what the first one left; in Opt with a checkpoint before power is lost.
-use Rattle.std.specs.Prelude.{◌≡◌, ◌≢◌, ◌⊎◌, ℕ, true, List, [], ◌∷◌, Option, Some, Result, Ok, Err, take}
-use Rattle.mm_life.specs.Below.{Basic, Opt, Instance, Item, Standing, Meaning, basic_instance, Slots, Store, StoreStanding}
-use Rattle.mm_life.specs.Below.{SessionFault, CheckpointRefusal, Checkpointed}
+-- and a session over what the first one left; in Opt with a checkpoint before power is lost. With
+-- it: a life that meets what is asked of a life.
+use Rattle.std.specs.Prelude.{◌≡◌, ◌≢◌, ◌⊎◌, ℕ, true, List, [], ◌∷◌, Option, Some, Result, Ok, Err, take, codes}
+use Rattle.mm_base.specs.Input.{joined_lines}
+use Rattle.mm_platform.specs.Standing.{own_item}
+use Rattle.mm_module.specs.Meaning.{counter}
+use Rattle.mm_model.specs.Chains.{guard}
 use Rattle.mm_model.specs.declared.refusal.Refusal.TheVariants.{Lost}
+use Rattle.mm_outcome.specs.OneRun.{world_barrier}
+use Rattle.mm_evidence.specs.Evidence.{HasClash}
+use Rattle.mm_recovery.specs.FirstStart.{InstanceBegins, Devices, instance_from}
 use Rattle.mm_recovery.specs.declared.fault.HostFault.TheVariants.{Refused}
 use Rattle.mm_host.specs.declared.fault.SessionFault.TheVariants.{Host}
-use Rattle.mm_recovery.specs.FirstStart.{InstanceBegins}
-use Rattle.mm_recovery.specs.Init.{Devices, instance_from}
-use Rattle.mm_life.specs.Deeds.{Checkpoints, LosesPower}
-use Rattle.mm_evidence.specs.Evidence.{HasClash}
+use Rattle.mm_life.specs.Below.{Basic, Opt, Instance, Item, Standing, Meaning, basic_instance, Slots, Store, StoreStanding, SessionFault}
+use Rattle.mm_life.specs.Below.{CheckpointRefusal, Checkpointed, Answer, AreNoGuards, IsClear, One, first_history, first_slots}
+use Rattle.mm_life.specs.Below.{issued_bytes, opt_instance}
+use Rattle.mm_life.specs.Deeds.{Checkpoints, LosesPower, served_calls_of}
 use Rattle.mm_life.specs.HonestLife.{IsGoneOnWith}
-use Rattle.mm_life.specs.Premises.{life_batches, life_messages, opt_messages, others_values}
-use Rattle.mm_life.specs.Stages.{Does, IsLife, LifeStage, program_standing, session_stage}
 use Rattle.mm_life.specs.LifeWrites.{BasicWrites, WritesOnceEach, segment_turns, turns_in_hand}
+use Rattle.mm_life.specs.Premises.{life_batches, life_messages, opt_messages, others_values, AreUntagged}
+use Rattle.mm_life.specs.Stages.{Does, IsLife, LifeStage, program_standing, session_stage, Holds, PartLeads, Program}
 
 -- What the objects of such a life tell: the devices of a first start, what is left of the input of
 -- each session, and what the output of both received.
@@ -129,3 +135,65 @@ pub record LivesOverCheckpoint (meaning : Meaning) (old new : LifeStanding)
       old.devices.platform.items ≡ Some items →
       WritesOnceEach started.platform stages (segment_turns meaning started.platform stages life)
       (turns_in_hand meaning started.platform stages life)
+
+-- A life that meets what is asked of a life: a session of one request.
+
+-- one line of input
+abbrev pub add_five : List ℕ
+add_five = codes "add 5"
+
+-- a session was held, and no more
+abbrev pub one_session : Program → Standing → List LifeStage
+one_session p after = record { part = Holds p; after = after } ∷ []
+
+-- No two messages of the session's calls share a digest, and nobody else made a tag of what it
+-- offers first; and where it ended with Ok it told the request.
+pub record MeetsPremises (key : List ℕ) (start after : Standing) (p : Program)
+    (s : PartLeads Basic counter start (Holds p) after) : Type 0 where
+  pub clear : IsClear
+      (life_messages (basic_instance counter key) start (one_session p after) (s, tt))
+  pub untagged : AreUntagged (basic_instance counter key)
+      (issued_bytes (basic_instance counter key) first_history ∷ []) start (one_session p after)
+      (s, tt)
+  pub told : p.result ≡ Ok tt → (answer : Answer)
+      × (served_calls_of s ≡ record { line = add_five; answer = answer } ∷ [])
+
+-- So it is in Basic of each session of a counter over the slots of a first start, to which that
+-- line is given alone, under every key and whatever its devices do.
+abbrev pub OneRequestMeetsPremises : Type 0
+OneRequestMeetsPremises =
+    (key : List ℕ) (start after : Standing) (p : Program)
+    (s : PartLeads Basic counter start (Holds p) after) →
+    p.old.kept.slots ≡ Some (first_slots (basic_instance counter key)) →
+    p.old.left ≡ Some (joined_lines (add_five ∷ [])) → MeetsPremises key start after p s
+
+-- behind it the register shows nothing, or the guard of that request alone: nobody else extended it
+abbrev pub ShowsGuardAlone : List ℕ → Standing → Type 0
+ShowsGuardAlone barrier after =
+    (after.items ≡ Some [])
+    ⊎ (after.items ≡ Some (own_item (guard barrier (One add_five)) ∷ []))
+
+-- In Opt the messages by which the register's items went into it share no digest with these either,
+-- and no value of others is a guard.
+pub record MeetsOptPremises (key : List ℕ) (start after : Standing) (p : Program)
+    (s : PartLeads Opt counter start (Holds p) after) : Type 0 where
+  pub clear : IsClear (opt_messages (opt_instance counter key world_barrier) start
+      (one_session p after) (s, tt))
+  pub apart : AreNoGuards world_barrier
+      (others_values (opt_instance counter key world_barrier) start (one_session p after) (s, tt))
+      (life_batches (opt_instance counter key world_barrier) start (one_session p after) (s, tt))
+  pub untagged : AreUntagged (opt_instance counter key world_barrier)
+      (issued_bytes (opt_instance counter key world_barrier) first_history ∷ []) start
+      (one_session p after) (s, tt)
+  pub told : p.result ≡ Ok tt → (answer : Answer)
+      × (served_calls_of s ≡ record { line = add_five; answer = answer } ∷ [])
+
+-- So it is in Opt of each such session, under every key and the barrier of each world, behind which
+-- the register shows no value of others.
+abbrev pub OptRequestMeetsPremises : Type 0
+OptRequestMeetsPremises =
+    (key : List ℕ) (start after : Standing) (p : Program)
+    (s : PartLeads Opt counter start (Holds p) after) →
+    p.old.kept.slots ≡ Some (first_slots (opt_instance counter key world_barrier)) →
+    p.old.left ≡ Some (joined_lines (add_five ∷ [])) → ShowsGuardAlone world_barrier after →
+    MeetsOptPremises key start after p s

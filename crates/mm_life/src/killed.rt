@@ -1,6 +1,6 @@
 //! Laws of programs that are killed, each the contract of a function that calls what it needs.
 
-ghost use Rattle.mm_life.specs.KilledPrograms.{CyclingLives, KilledCheckpointsLive, KilledLossesLive, KilledSessionsLive, KilledStartsLeave};
+ghost use Rattle.mm_life.specs.Stages.{CyclingLives, KilledCheckpointsLive, KilledLossesLive, KilledSessionsLive, KilledStartsLeave};
 
 use mm_host::{InitFault, SessionFault};
 use mm_killed::any_program_stops;

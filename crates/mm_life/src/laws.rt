@@ -1,10 +1,8 @@
 //! Laws of a life, each the contract of a function that does nothing, or calls what it needs.
 
-ghost use Rattle.mm_life.specs.DeviceDeeds.{CyclesAreDeeds, ReadsAreDeeds};
-ghost use Rattle.mm_life.specs.DeedHistory.{BasicDeedsStay, OptDeedsStay};
-ghost use Rattle.mm_life.specs.OneRequest.{OneRequestMeetsPremises, OptRequestMeetsPremises};
-ghost use Rattle.mm_life.specs.BatchDeeds.{BatchCallsAreDeeds, CallsInPartsAreDeeds};
-ghost use Rattle.mm_life.specs.PartsElsewhere.{PartsAreRefusedElsewhere};
+ghost use Rattle.mm_life.specs.Deeds.{CyclesAreDeeds, ReadsAreDeeds, BatchCallsAreDeeds, CallsInPartsAreDeeds};
+ghost use Rattle.mm_life.specs.Premises.{BasicDeedsStay, OptDeedsStay, PartsAreRefusedElsewhere};
+ghost use Rattle.mm_life.specs.OneStore.{OneRequestMeetsPremises, OptRequestMeetsPremises};
 ghost use Rattle.mm_life.specs.LifeWrites.{BasicLivesWriteOnce, OptLivesWriteOnce};
 ghost use Rattle.mm_life.specs.Laws.{BasicLifeIsOne, LivesKeepPromises, LivesTellWhatWasSaid, NextMayStart, OptLifeIsOne, SessionsOfferSlots};
 

@@ -2,7 +2,7 @@
 //! over what the first one left; in Opt with a checkpoint before power is lost.
 
 ghost use Rattle.std.specs.Prelude.{IfOk};
-ghost use Rattle.mm_recovery.specs.Init.{devices};
+ghost use Rattle.mm_recovery.specs.FirstStart.{devices};
 ghost use Rattle.mm_life.specs.OneStore.{LivesOnOneStore, LivesOverCheckpoint, life_standing};
 
 use crate::honest::{basic_life_goes_on, opt_life_goes_on};

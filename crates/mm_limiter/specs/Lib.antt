@@ -1,9 +1,4 @@
 pub mod Table
-pub mod Views
-pub mod LimiterLaws
-pub mod Guesses
-pub mod GuessLaws
-pub mod Promise
-pub mod PromiseLaws
-pub mod Requests
 pub mod LimiterListing
+pub mod LimiterLaws
+pub mod Promise

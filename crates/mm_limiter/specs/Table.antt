@@ -5,10 +5,8 @@ use Rattle.std.specs.Prelude.{unwrap_or, option_and_then, if◌then◌else◌}
 use Rattle.std.specs.Fmt.{decimal}
 use Rattle.std.specs.List.{list_all}
 use Rattle.std.specs.Str.{bytes_eq}
-use Rattle.mm_bytes.specs.Decimals.{decimal_number}
-use Rattle.mm_module.specs.Visible.{is_visible}
-use Rattle.mm_module.specs.Words.{words_of}
-use Rattle.mm_module.specs.Meaning.{Meaning}
+use Rattle.mm_bytes.specs.Limits.{decimal_number}
+use Rattle.mm_module.specs.Meaning.{is_visible, words_of, Meaning}
 
 -- no secret yet; or the wrong guesses that are allowed in a row, those left, and the secret
 pub data TableState : Type 0 where

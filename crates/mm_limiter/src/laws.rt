@@ -1,6 +1,6 @@
 //! What a limiter promises of a whole run.
 
-ghost use Rattle.mm_limiter.specs.Guesses.{GuessesAreLimited};
+ghost use Rattle.mm_limiter.specs.Promise.{GuessesAreLimited};
 
 /// Between two outputs `set` or `open` that follow each other, and after the last, at most as many
 /// guesses are wrong as the request allowed that was told `set`.

@@ -1,9 +1,9 @@
 //! The limiter as a module.
 
 ghost use Rattle.std.specs.Prelude.{◌≡◌, None, if◌then◌else◌, IfOk, IsTrue, is_some, length, option_map, option_and_then};
-ghost use Rattle.mm_module.specs.Words.{words_of};
+ghost use Rattle.mm_module.specs.Meaning.{words_of};
 ghost use Rattle.mm_limiter.specs.Table.{IsShortSecret, is_secret, is_tries, is_guard, request_of, state_of, outcome_of, text_of, spelling_of, limiter};
-ghost use Rattle.mm_limiter.specs.Views.{as_state, as_request, as_says};
+ghost use Rattle.mm_limiter.specs.LimiterListing.{as_state, as_request, as_says};
 ghost use Rattle.mm_limiter.specs.LimiterLaws.{limiter_is_lawful, limiter_is_short};
 
 use mm_bytes::{Bytes, Memory, read_decimal};

@@ -2,8 +2,8 @@
 use Rattle.std.specs.Prelude.{ℕ, ◌/◌, ◌%◌, ◌==◌, List, ◌++◌, if◌then◌else◌, codes}
 use Rattle.std.proofs.Common.{refl, arith}
 use Rattle.std.specs.Fmt.{decimal}
-use Rattle.mm_module.specs.CounterLaws.{counter_is_lawful}
-use Rattle.mm_module.specs.CounterTable.{counter}
+use Rattle.mm_module.specs.RunLaws.{counter_is_lawful}
+use Rattle.mm_module.specs.Meaning.{counter}
 use Rattle.mm_module.specs.LineLaws.{IsText}
 use Rattle.mm_listing.specs.Listing.{Listing, listing_of, IsListing, PromisesNothing}
 use Rattle.mm_listing.specs.RequestLaws.{counted, in_both, listed, word}

@@ -1,10 +1,28 @@
--- What a module brings to the list of modules.
-use Rattle.std.specs.Prelude.{◌≡◌, ℕ, ◌==◌, ◌&&◌, ◌||◌, Bool, true, false, nat_le, List, [], ◌∷◌, codes}
-use Rattle.std.specs.List.{list_all}
+-- What a module brings to the list of modules. With it: what lines tell of the requests of a run,
+-- each by the requests before it.
+use Rattle.std.specs.List.{AllByRecursion, list_all}
+use Rattle.std.specs.Prelude.{◌≡◌, ℕ, List, Some, slice_get, ◌==◌, ◌&&◌, ◌||◌, Bool, true, false, nat_le, [], ◌∷◌, codes}
 use Rattle.std.specs.Str.{bytes_eq}
 use Rattle.mm_module.specs.LineLaws.{IsText}
-use Rattle.mm_module.specs.Meaning.{IsLawful, Meaning}
-use Rattle.mm_listing.specs.Tellings.{AreSaid, Telling}
+use Rattle.mm_module.specs.Meaning.{Meaning, outputs_from, IsLawful}
+
+-- What lines tell of the requests of a run, each by the requests before it.
+
+-- One line `ok` or `again`: how many requests come before the one that it names, and what it says.
+pub record Telling : Type 0 where
+  pub before : ℕ
+  pub output : List ℕ
+
+-- the line says what was said to the request that it names: these are the outputs of all requests
+abbrev pub WasSaid : List (List ℕ) → Telling → Type 0
+WasSaid outputs telling = slice_get outputs telling.before ≡ Some telling.output
+
+-- all lines say what was said in the run of these requests
+abbrev pub AreSaid : Meaning → List (List ℕ) → List Telling → Type 0
+AreSaid meaning requests tellings =
+    AllByRecursion (WasSaid (outputs_from meaning meaning.first requests)) tellings
+
+-- What a module brings to the list of modules.
 
 -- A name; the module; the request of a generated schedule that a number chooses; and what the
 -- module promises of the requests that were run and of the lines that tell of them.

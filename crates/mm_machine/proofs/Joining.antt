@@ -1,14 +1,15 @@
--- One step and what comes behind it are the whole of what is left.
-use Rattle.std.specs.Prelude.{◌≡◌, Option, None, Some, Result, Ok, Err, refl}
-use Rattle.std.proofs.Common.{subst}
-use Rattle.mm_platform.specs.Standing.{Standing}
-use Rattle.mm_platform.specs.Steps.{StepGoes}
+-- One step and what comes behind it are the whole of what is left. With it: what both reading steps
+-- read, and where the platform stands behind them; a call's last step, and how the call ended by
+-- it.
+use Rattle.std.specs.Option.{option_map_or}
+use Rattle.std.specs.Prelude.{◌≡◌, Option, None, Some, Result, Ok, Err, refl, List, [], ℕ, ◌∷◌}
+use Rattle.std.specs.Result.{result_err}
+use Rattle.std.proofs.Common.{subst, ◌∙◌, ap, sym}
+use Rattle.std.proofs.lemmas.List.{append-nil}
+use Rattle.mm_digest.specs.declared.digest.Digest.{Digest}
+use Rattle.mm_platform.specs.Standing.{Standing, StepGoes, Item, item_values, register_after, Act}
 use Rattle.mm_platform.specs.declared.fault.StepFault.{StepFault}
 use Rattle.mm_machine.specs.Acts.{act_in, remaining_acts}
-use Rattle.mm_machine.specs.OpMeaning.{OpMeaning}
-use Rattle.mm_machine.specs.OpReads.{OpLooks, FindsRoom, OpWeighs}
-use Rattle.mm_machine.specs.OpSteps.{OpSteps, SightLeads, step_of_finding, step_after_change}
-use Rattle.mm_machine.specs.OpEnds.{OpActs, FindingEnds, FindsAndEnds, OpEnds, goes_on, breaks_off}
 use Rattle.mm_machine.specs.declared.call.OpResult.{OpResult}
 use Rattle.mm_machine.specs.declared.call.OpStage.{OpStage}
 use Rattle.mm_machine.specs.declared.call.OpStage.TheVariants.{Begun, Seen, Changing}
@@ -21,6 +22,9 @@ use Rattle.mm_machine.specs.declared.operation.OpFinding.TheVariants.{Repeat, Ch
 use Rattle.mm_machine.specs.declared.operation.Sight.{Sight}
 use Rattle.mm_machine.specs.declared.operation.Sight.TheVariants as sight
 use Rattle.mm_machine.specs.declared.reading.Halt.{Halt}
+use Rattle.mm_machine.specs.OpSteps.{OpMeaning, OpLooks, FindsRoom, OpWeighs, OpSteps, SightLeads, step_of_finding, step_after_change}
+use Rattle.mm_machine.specs.OpSteps.{OpActs, FindingEnds, FindsAndEnds, OpEnds, goes_on, breaks_off, AreOthersBehind, StandsAsRead}
+use Rattle.mm_machine.specs.OpSteps.{ActsEndBy, ending_at_last}
 
 module _ {A R : Type 0} (o : OpMeaning A R) where
   -- what comes behind a step
@@ -85,3 +89,23 @@ module _ {A R : Type 0} (o : OpMeaning A R) where
   joins (Changing ready) old middle new step ended s e =
       made_joins ready.change ready.answer s.fault old middle new ended s.goes
       (subst (λ (x : StepResult A R). StepEnds x middle new ended) s.gives e)
+
+-- What both reading steps read, and where the platform stands behind them.
+
+pub stands_read : (bytes : List ℕ) (value : Digest) (old new : Standing) → StandsAsRead bytes None old → new.cell ≡ old.cell
+    → ((items : List Item) → new.items ≡ Some items → value.bytes ≡ register_after (item_values items))
+    → StandsAsRead bytes (Some value) new
+stands_read bytes value old new stands same gives = record {
+  cell = λ cell is. stands.cell cell (sym same ∙ is);
+  register = λ shown is items told. subst (λ (it : Digest). AreOthersBehind it.bytes items)
+      (ap (λ (o : Option Digest). option_map_or (λ (it : Digest). it) o value) is)
+      (record { read = items; others = []; gives = gives items told; behind = sym (append-nil items) });
+}
+
+-- A call's last step, and how the call ended by it.
+
+pub ends_at_last : {A R : Type 0} (position : ℕ) (act : Act) (answer : A) (made : Result Unit StepFault) (old new : Standing)
+    (ended : OpResult A R) → StepGoes act old new (result_err made) → ended ≡ ending_at_last position answer made
+    → ActsEndBy position (act ∷ []) answer old new ended
+ends_at_last position act answer (Ok done) old new ended g e = goes_on new g (refl, e)
+ends_at_last position act answer (Err fault) old new ended g e = breaks_off fault g e

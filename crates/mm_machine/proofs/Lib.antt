@@ -1,4 +1,2 @@
 pub mod Above
-mod Ending
 mod Joining
-mod Preparing

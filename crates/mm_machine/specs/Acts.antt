@@ -1,7 +1,6 @@
 -- The changing steps: which comes next, which are left, and the room that they take.
 use Rattle.std.specs.Prelude.{ℕ, ◌≤◌, Bool, true, false, List, [], ◌∷◌, Option, None, Some}
-use Rattle.mm_platform.specs.Standing.{Standing}
-use Rattle.mm_platform.specs.Steps.{Act, WriteCell, ResetRegister, ExtendRegister}
+use Rattle.mm_platform.specs.Standing.{Standing, Act, WriteCell, ResetRegister, ExtendRegister}
 use Rattle.mm_machine.specs.declared.change.Change.{Change}
 use Rattle.mm_machine.specs.declared.change.Change.TheVariants.{Extending, Emptying, Placing, Writing}
 

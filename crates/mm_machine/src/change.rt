@@ -32,7 +32,7 @@ pub enum Change {
 impl Change {
     ghost use Rattle.std.specs.Prelude.{◌≡◌, ◌≤◌, ◌<◌, ◌^◌, true, IfOk};
     ghost use Rattle.std.specs.Result.{result_err};
-    ghost use Rattle.mm_platform.specs.Steps.{StepGoes};
+    ghost use Rattle.mm_platform.specs.Standing.{StepGoes};
     ghost use Rattle.mm_machine.specs.Acts.{MayChange, act_in, change_after, is_extension_left, is_last, number_in};
 
     /// Whether the register is to be extended.

@@ -1,11 +1,9 @@
 //! What is left of a call, to its end.
 
 ghost use Rattle.std.specs.Prelude.{◌≡◌, ◌≤◌, ◌∷◌, [], None, Some, Ok};
-ghost use Rattle.mm_platform.specs.Steps.{ExtendRegister, ResetRegister, WriteCell};
+ghost use Rattle.mm_platform.specs.Standing.{ExtendRegister, ResetRegister, WriteCell};
 ghost use Rattle.mm_machine.specs.Acts.{MayChange, remaining_acts};
-ghost use Rattle.mm_machine.specs.OpEnds.{ActsEndBy, FindsAndEnds, OpEnds, ending_at_last};
-ghost use Rattle.mm_machine.specs.OpReads.{RoomIsMadeFor};
-ghost use Rattle.mm_machine.specs.OpSteps.{MayGoOn};
+ghost use Rattle.mm_machine.specs.OpSteps.{ActsEndBy, FindsAndEnds, OpEnds, ending_at_last, RoomIsMadeFor, MayGoOn};
 ghost use Rattle.mm_machine.specs.declared.call.OpStage.TheVariants.{Begun, Seen};
 
 use crate::call::{OpCall, OpResult, OpStage, StepResult, advance};

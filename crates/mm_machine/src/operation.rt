@@ -1,7 +1,7 @@
 //! What an operation sees and finds.
 
 ghost use Rattle.std.specs.Prelude.{◌≡◌, ◌≤◌, ℕ};
-ghost use Rattle.mm_machine.specs.OpMeaning.{OpMeaning};
+ghost use Rattle.mm_machine.specs.OpSteps.{OpMeaning};
 
 use crate::change::Change;
 use mm_bytes::CELL_LENGTH;

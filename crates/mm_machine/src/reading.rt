@@ -2,8 +2,8 @@
 
 ghost use Rattle.std.specs.Prelude.{◌≡◌, ℕ, List, None, Some, Ok, OnOk, IfOk};
 ghost use Rattle.mm_platform.specs.Standing.{Item, item_values, register_after};
-ghost use Rattle.mm_machine.specs.OpReads.{SightFinds, FindsRoom, LeavesRoom, OpLooks, OpReads, RoomIsMadeFor, OpWeighs, found_with_room, has_extension};
-ghost use Rattle.mm_machine.specs.Prepared.{StandsAsPrepared, StandsAsRead, found_in};
+ghost use Rattle.mm_machine.specs.OpSteps.{SightFinds, FindsRoom, LeavesRoom, OpLooks, OpReads, RoomIsMadeFor, OpWeighs, found_with_room};
+ghost use Rattle.mm_machine.specs.OpSteps.{has_extension, StandsAsPrepared, StandsAsRead, found_in};
 
 use crate::operation::{OpFinding, Operation, Sight};
 use mm_bytes::CELL_LENGTH;

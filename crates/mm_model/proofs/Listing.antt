@@ -9,9 +9,8 @@ use Rattle.mm_model.proofs.Below.{AreMessagesIn, register_trail, closed_runs, ru
 use Rattle.mm_model.proofs.Below.{trail_push, nil_from_length, listed_value, own_values-append, values_of-append, length-batches_in}
 use Rattle.mm_model.proofs.Below.{values_renamed}
 use Rattle.mm_model.specs.Chains.{register_of, anchor_of}
-use Rattle.mm_model.specs.MessagesWords.{move_messages}
-use Rattle.mm_model.proofs.Paths.{RunsListed, current_clean, shut_current, runs_parts}
-use Rattle.mm_model.proofs.HistoryParts.{HistoryListed, history_listed}
+use Rattle.mm_model.specs.Messages.{move_messages}
+use Rattle.mm_model.proofs.Paths.{RunsListed, current_clean, shut_current, runs_parts, HistoryListed, history_listed}
 use Rattle.mm_model.proofs.Moves.{flagged, open_current}
 
 flat_each : {A B : Type 0} (P : B → Type 0) (f : A → List B) (xs : List A) → AllByRecursion (λ x. AllByRecursion P (f x)) xs

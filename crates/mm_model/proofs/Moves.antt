@@ -1,4 +1,13 @@
--- What each move keeps and does: soundness, the digests, and the values that it leaves that stand for no batch.
+-- What each move keeps and does: soundness, the digests, and the values that it leaves that stand
+-- for no batch. With it: the last of owned batches; a batch that runs member by member.
+use Rattle.std.specs.List.{slice_get}
+use Rattle.std.proofs.Common.{Some, add-one, drop-cons}
+use Rattle.std.proofs.lemmas.Bool.{or_left, or_right}
+use Rattle.std.proofs.lemmas.Option.{slice_get_within, get_or_from_slice_get}
+use Rattle.mm_module.specs.Meaning.{outputs_from, state_from}
+use Rattle.mm_model.specs.declared.kept.KeptBatch.{KeptBatch}
+use Rattle.mm_model.specs.History.{commit_moves, history_after_moves, with_batch}
+use Rattle.mm_model.specs.Moves.{IsPartialRun}
 use Rattle.mm_model.proofs.Below.{ℕ, ◌≡◌, Bool, true, false, List, [], ◌∷◌, ◌++◌, refl, sym, ap, ◌∙◌, inl, inr, append_assoc, map}
 use Rattle.mm_model.proofs.Below.{append-nil, map-append, and_from, and_parts, Opt, Batch, Meaning, guard, register_of, anchor_of, Instance}
 use Rattle.mm_model.proofs.Below.{opt_instance, basic_instance, RegisterEntry, Own, Value, History, Move, Commit, Foreign, Placed, Reset}
@@ -7,10 +16,9 @@ use Rattle.mm_model.proofs.Below.{has_value, are_own, is_same_batch, IsSound, Ar
 use Rattle.mm_model.proofs.Below.{digests_of, digests_after, digests_after_commit, IsOutside, MoveBrings, each_append, each_left}
 use Rattle.mm_model.proofs.Below.{is_same_batch-Decides, total-push, true_not_false, joined-push, has_value-append, batches_in-append}
 use Rattle.mm_model.proofs.Below.{register_more, values_renamed, renamed-push, if◌then◌else◌, AllByRecursion, Contains, zero_bytes}
-use Rattle.mm_model.proofs.Below.{anchored_digest_of, values_of, values_in, summary-push, anchor-push, reads_zero}
-use Rattle.std.proofs.lemmas.Bool.{or_left, or_right}
+use Rattle.mm_model.proofs.Below.{anchored_digest_of, values_of, values_in, summary-push, anchor-push, reads_zero, zero, suc, ◌+◌, length}
+use Rattle.mm_model.proofs.Below.{get_or, arith, kept_batch, kept_batches, is_last, ◌<◌, drop, IsLawful}
 use Rattle.mm_model.proofs.Paths.{current_clean, empty_cases, marred_has, shut_current}
-use Rattle.mm_model.specs.CommitMoves.{commit_moves, history_after_moves, with_batch}
 
 has_value-push : (es : List RegisterEntry) (d : List ℕ) → has_value (es ++ Value d ∷ []) ≡ true
 has_value-push es d = has_value-append es (Value d ∷ []) ∙ or_right (has_value es) true refl
@@ -273,3 +281,33 @@ whole_at meaning key barrier y false b = λ j. record {
 pub opt_whole : (meaning : Meaning) (key barrier : List ℕ) (y : History) (b : Batch)
     → with_batch Opt y b ≡ history_after_moves (opt_instance meaning key barrier) y (commit_moves Opt y.is_open b)
 opt_whole meaning key barrier y b = whole_at meaning key barrier y y.is_open b
+
+-- The last of owned batches.
+
+-- the last batch, by its index
+pub last_at : (batches : List KeptBatch) (n : ℕ) (last : KeptBatch) (b : Batch) → length batches ≡ n + 1 → last ≡ get_or batches n last
+    → is_same_batch (kept_batch last) b ≡ is_last (kept_batches batches) b
+last_at (x ∷ []) zero last b l is = ap (λ (k : KeptBatch). is_same_batch (kept_batch k) b) is
+last_at (x ∷ y ∷ batches) (suc n) last b l is = last_at (y ∷ batches) n last b (omega (arith, l)) is
+last_at _ _ last b l is = absurd (omega (arith, l))
+
+-- A batch that runs member by member.
+
+pub drop_at : (xs : List (List ℕ)) (i : ℕ) (m : List ℕ) → slice_get xs i ≡ Some m → drop i xs ≡ m ∷ drop (i + 1) xs
+drop_at xs i m e =
+    let lt : i < length xs = slice_get_within xs i m e in
+    rw (add-one, drop-cons xs i m) (ap (λ (v : List ℕ). v ∷ drop (suc i) xs) (get_or_from_slice_get xs i m m e))
+
+-- one member more, by what its step gave
+pub ran_on : (meaning : Meaning) → IsLawful meaning → (start : List ℕ) (members : List (List ℕ)) (i : ℕ) (state next : List ℕ)
+    (outputs longer : List (List ℕ)) (m : List ℕ) → IsPartialRun meaning start members i state outputs → slice_get members i ≡ Some m
+    → next ≡ meaning.next state m → longer ≡ outputs ++ meaning.says state m ∷ []
+    → IsPartialRun meaning start members (i + 1) next longer
+ran_on meaning lawful start members i state next outputs longer m ran at next_is longer_is =
+    let d : drop i members ≡ m ∷ drop (i + 1) members = drop_at members i m at in
+    rw (longer_is, next_is) (record {
+      state_is = sym (ap (λ (v : List (List ℕ)). state_from meaning state v) d) ∙ ran.state_is;
+      outputs_are = append_assoc outputs (meaning.says state m ∷ []) (outputs_from meaning (meaning.next state m) (drop (i + 1) members))
+          ∙ sym (ap (λ (v : List (List ℕ)). outputs ++ outputs_from meaning state v) d) ∙ ran.outputs_are;
+      spelled = lawful.goes_on state m ran.spelled;
+    })

@@ -1,12 +1,24 @@
--- A snapshot that names a position names it after each move; the snapshot of an answer names the last position.
+-- A snapshot that names a position names it after each move; the snapshot of an answer names the
+-- last position. With it: Opt: a fresh offer lists the messages that its batch adds to the history;
+-- whether an offer stands where the module stands.
+use Rattle.mm_model.specs.declared.verdict.Verdict.TheVariants.{Fresh as IsFresh}
+use Rattle.mm_model.specs.Messages.{is_new, place_messages}
 use Rattle.mm_model.proofs.Below.{ℕ, ◌≡◌, ◌≤◌, Bool, true, false, List, [], ◌∷◌, ◌++◌, length, refl, sym, ap, ◌∙◌, ◌⊎◌, inl, inr, arith}
 use Rattle.mm_model.proofs.Below.{append_assoc, length-append, append-nil, append_cancel_right, Opt, Batch, Meaning, Place, InBasic, InOpt}
 use Rattle.mm_model.proofs.Below.{Content, guard, Instance, basic_instance, opt_instance, RegisterEntry, Own, Value, History, Move, Commit}
 use Rattle.mm_model.proofs.Below.{Foreign, Placed, Close, items_of_all, history_after, entries_with_last_batch, has_value, IsSound, IsClean}
 use Rattle.mm_model.proofs.Below.{batches_in, IsClosedPoint, IsCurrentPoint, IsPoint, at_anchor, in_closed, in_current, IsPlaceOf}
 use Rattle.mm_model.proofs.Below.{NamesPosition, content_of_issue, issued_place, MayMove, length-batches_in, anchor_after, basic_stands}
-use Rattle.mm_model.proofs.Paths.{clean_size, current_clean, live_clean, shut_current}
+use Rattle.mm_model.proofs.Below.{◌+◌, ◌&&◌, map, nat_eq, Contains, extended_message, size_of, guard_message, register_of, own_values}
+use Rattle.mm_model.proofs.Below.{total_of, values_of, is_empty, are_own, Life, Live, life_of, is_last, verdict_on, verdict_by_tests}
+use Rattle.mm_model.proofs.Below.{AreMessagesIn, IsClearFor, point_messages, batch_messages, at_the_end, items_taken_in, IsFreshSomehow}
+use Rattle.mm_model.proofs.Below.{reads_zero, values_of-own, if◌then◌else◌, bytes_eq, Basic, zero_bytes, anchored_message, summary_of}
+use Rattle.mm_model.proofs.Below.{register_value_of, cell_digest_of, Spoiled, Lost, is_lost_life, verdict_by_digests, forms_of, verdict_by}
+use Rattle.mm_model.proofs.Below.{opt_verdict, IsClear, AreNoGuards, history_messages, values_in, counted_entries, basic_here}
 use Rattle.mm_model.proofs.Moves.{flagged, open_current, opening_clean}
+use Rattle.mm_model.proofs.OptJudge.{second_listed, Stood, stood_at, path_messages, fresh_path, held_at, live_values_at, zero_tells, told}
+use Rattle.mm_model.proofs.OptJudge.{fresh_told, zero_is_lost}
+use Rattle.mm_model.proofs.Paths.{clean_size, current_clean, live_clean, shut_current, LiveParts, live_parts}
 
 -- a place in a history with these closed segments and perhaps more, where a place in the open one is a place there
 module _ (i : Instance) (key : List ℕ) (y z : History) (more : List (List RegisterEntry)) (longer : z.closed ≡ y.closed ++ more)
@@ -221,3 +233,105 @@ module _ (meaning : Meaning) (key : List ℕ) where
 
   pub basic_issued : (y : History) → NamesPosition (basic_instance meaning key) y (content_of_issue (basic_instance meaning key) y)
   basic_issued y = record { named = y.batches; rest = []; first = sym (append-nil y.batches); position = refl; state = refl; place = refl }
+
+-- Opt: a fresh offer lists the messages that its batch adds to the history.
+
+judged_fresh : (l : Life) (x r : Bool) → verdict_by_tests l x r ≡ IsFresh → (l ≡ Live) × (x ≡ true)
+judged_fresh Live true r e = (refl, refl)
+judged_fresh Live false true e = absurd (cc)
+judged_fresh _ _ _ e = absurd (cc)
+
+current_values : (barrier : List ℕ) (y : History) (flag : Bool) → IsSound y → y.is_open ≡ flag
+    → LiveParts flag (is_empty y.items) (are_own y.items y.current) (has_value (items_of_all y.closed))
+    → items_taken_in flag (values_of barrier y.items) ≡ own_values barrier y.current
+current_values barrier y true sound f live = values_of-own barrier y.items y.current (live.own refl)
+current_values barrier y false sound f live = ap (own_values barrier) (sym (shut_current y sound f))
+
+module _ (i : Instance) (y : History) (named rest : List Batch) (a e : List ℕ) (all : List (List ℕ)) (q : Stood i y named rest a e all)
+  where
+    -- the batch's extension, by the form that fits
+    extends : (b : Batch) → AreMessagesIn (point_messages a e (guard i.barrier b)) all
+        → items_taken_in y.is_open (values_of i.barrier y.items) ≡ own_values i.barrier y.current
+        → IsFreshSomehow y.is_open (map (values_of i.barrier) y.closed) (values_of i.barrier y.items) q.before q.taken
+        → Contains all (extended_message (register_of (own_values i.barrier y.current)) (guard i.barrier b))
+    extends b call same f =
+        let v = guard i.barrier b in let listed = path_messages i y named rest a e all q v call in
+        elim f [
+          | inl here ↦ rw (here.1, same) at listed.0
+          | inr there ↦
+              rw (← reads_zero, there.1.1, same) at
+              (second_listed i.meaning.id all q.clears.clear q.before q.taken v q.path listed there.0).1.0
+        ]
+
+    fresh_on : (b : Batch) → IsSound y → Contains all (guard_message i.barrier b)
+        → AreMessagesIn (point_messages a e (guard i.barrier b)) all
+        → verdict_on Opt y (total_of named) b ≡ IsFresh → AreMessagesIn (batch_messages i y (Commit b)) all
+    fresh_on b sound called call is =
+        let both = judged_fresh (life_of Opt y) (nat_eq (total_of named) (total_of y.batches))
+        (nat_eq (total_of named + size_of b) (total_of y.batches) && is_last y.batches b) is in
+        let parts = live_parts y.is_open (is_empty y.items) (are_own y.items y.current) (has_value (items_of_all y.closed)) both.0 in
+        let found = fresh_path i y named rest a e all q (held_at y.is_open y.items i.barrier parts.held)
+        (ap (own_values i.barrier) ((at_the_end y.batches named rest q.first).0 both.1)
+        ∙ sym (live_values_at i.barrier y y.is_open sound refl (live_clean y sound parts.clean) parts)) in
+        (called, (extends b call (current_values i.barrier y y.is_open sound refl parts) found, tt))
+
+pub fresh_lists : (meaning : Meaning) (key barrier : List ℕ) (y : History) (offered : Content) (b : Batch) (all : List (List ℕ)) → IsSound y
+    → IsClearFor all (opt_instance meaning key barrier) y offered.place b → NamesPosition (opt_instance meaning key barrier) y offered
+    → verdict_on Opt y offered.position b ≡ IsFresh → AreMessagesIn (batch_messages (opt_instance meaning key barrier) y (Commit b)) all
+fresh_lists meaning key barrier y offered b all sound clear names e =
+    let i = opt_instance meaning key barrier in
+    let s = stood_at i y names.named names.rest offered.place all sound clear.clear clear.history names.first names.place in
+    let call = rw s.2 at clear.call in
+    fresh_on i y names.named names.rest s.0.bytes s.1.bytes all s.3 b sound call.0 call.1 (rw names.position at e)
+
+-- Whether an offer stands where the module stands: the verdicts by digests and on the history tell the same, whatever the
+-- batch, and no message of a batch is looked at.
+
+new_by : (fresh again : Bool) → is_new (verdict_by false fresh again) ≡ fresh
+new_by false true = refl
+new_by _ _ = refl
+
+new_judged : (here repeat : Bool) → is_new (verdict_by_tests Live here repeat) ≡ here
+new_judged false true = refl
+new_judged _ _ = refl
+
+pub basic_stands_here : (meaning : Meaning) (key register : List ℕ) (y : History) (offered : Content) (b : Batch) (all : List (List ℕ))
+    → IsClear all → AreMessagesIn (history_messages (basic_instance meaning key) y) all
+    → NamesPosition (basic_instance meaning key) y offered
+    → is_new (verdict_by_digests zero_bytes false (cell_digest_of (basic_instance meaning key) Basic y) register offered.place b) ≡ is_new
+    (verdict_on Basic y offered.position b)
+basic_stands_here meaning key register y offered b all clear history names =
+    let s = basic_stands meaning key y names.named offered.place names.place in
+    rw (s.1, s.2, names.position) (new_by (bytes_eq (summary_of meaning.id names.named) (summary_of meaning.id y.batches)) _
+    ∙ basic_here meaning.id y.batches names.named names.rest all clear history.0 history.1 names.first
+    ∙ sym (new_judged (nat_eq (total_of names.named) (total_of y.batches)) (nat_eq (total_of names.named + size_of b)
+    (total_of y.batches) && is_last y.batches b)))
+
+new_told : (life : Life) (fresh again here repeat : Bool) → (is_lost_life life ≡ false → fresh ≡ told life here)
+    → is_new (verdict_by (is_lost_life life) fresh again) ≡ is_new (verdict_by_tests life here repeat)
+new_told Live fresh again here repeat f = new_by fresh again ∙ f refl ∙ sym (new_judged here repeat)
+new_told Spoiled fresh again here repeat f = new_by fresh again ∙ f refl
+new_told Lost fresh again here repeat f = refl
+
+opt_on : (i : Instance) (y : History) (named rest : List Batch) (a e : List ℕ) (b : Batch) (all : List (List ℕ)) → IsSound y
+    → Stood i y named rest a e all → AreMessagesIn (if bytes_eq e zero_bytes then [] else anchored_message a e ∷ []) all
+    → AreNoGuards i.barrier (values_in (counted_entries y)) y.batches
+    → is_new (opt_verdict y.is_open (anchor_after i y.closed) (register_of (values_of i.barrier y.items)) (forms_of a e)
+    (guard i.barrier b)) ≡ is_new (verdict_on Opt y (total_of named) b)
+opt_on i y named rest a e b all sound q listed foreign =
+    rw (zero_is_lost i y all q.clears.clear q.history.last) (new_told (life_of Opt y) _ _ (nat_eq (total_of named) (total_of y.batches))
+    (nat_eq (total_of named + size_of b) (total_of y.batches) && is_last y.batches b)
+    (fresh_told i y named rest a e all q sound foreign (λ some.
+    let there : bytes_eq (register_of q.taken) zero_bytes ≡ false = zero_tells all q.clears.clear q.taken q.path.last ∙ some in
+    (rw (q.anchor_is, q.extension_is, there) at listed).0)))
+
+pub opt_stands_here : (meaning : Meaning) (key barrier : List ℕ) (y : History) (offered : Content) (b : Batch) (all : List (List ℕ))
+    → IsSound y → IsClear all → AreMessagesIn (history_messages (opt_instance meaning key barrier) y) all
+    → AreMessagesIn (place_messages offered.place) all
+    → AreNoGuards barrier (values_in (counted_entries y)) y.batches → NamesPosition (opt_instance meaning key barrier) y offered
+    → is_new (verdict_by_digests barrier y.is_open (cell_digest_of (opt_instance meaning key barrier) Opt y)
+    (register_value_of (opt_instance meaning key barrier) y) offered.place b) ≡ is_new (verdict_on Opt y offered.position b)
+opt_stands_here meaning key barrier y offered b all sound clear history listed foreign names =
+    let i = opt_instance meaning key barrier in
+    let s = stood_at i y names.named names.rest offered.place all sound clear history names.first names.place in
+    rw (s.2, names.position) (opt_on i y names.named names.rest s.0.bytes s.1.bytes b all sound s.3 (rw s.2 at listed) foreign)

@@ -1,23 +1,102 @@
--- Opt: from a sound history the verdict by digests is the verdict on the history.
-use Rattle.mm_model.proofs.Below.{ℕ, ◌≡◌, ◌+◌, Bool, true, false, ◌&&◌, List, [], ◌∷◌, ◌++◌, length, map, refl, sym, ap, ◌∙◌, subst, inl}
-use Rattle.mm_model.proofs.Below.{inr, nat_eq, if◌then◌else◌, Decides, bytes_eq, AllByRecursion, Contains, list_any, append-nil, map-append}
-use Rattle.mm_model.proofs.Below.{Opt, zero_bytes, start_digest_of, anchored_message, Batch, size_of, guard_message, closing_message, guard}
-use Rattle.mm_model.proofs.Below.{register_of, anchor_of, own_values, Meaning, Place, InBasic, InOpt, Content, Instance, opt_instance}
-use Rattle.mm_model.proofs.Below.{RegisterEntry, History, items_of_all, total_of, register_value_of, values_of, cell_digest_of, is_empty}
-use Rattle.mm_model.proofs.Below.{has_value, are_own, Life, Live, Spoiled, Lost, life_by, life_of, is_lost_life, verdict_by_digests}
-use Rattle.mm_model.proofs.Below.{forms_of, is_fresh_form, is_repeat_form, is_last, verdict_by, opt_verdict, verdict_on, verdict_by_tests}
-use Rattle.mm_model.proofs.Below.{IsPoint, IsPlaceOf, NamesPosition, anchor_after, AreMessagesIn, IsClear, IsClearFor, register_trail}
-use Rattle.mm_model.proofs.Below.{point_messages, messages_of, counted_entries, values_in, AreNoGuards, IsSound, IsClean, batches_in}
-use Rattle.mm_model.proofs.Below.{each_left, each_right, each_append, trail_front, same_own_values, same_tests, at_the_end, before_the_last}
-use Rattle.mm_model.proofs.Below.{verdicts, true_not_false, items_taken_in, IsFreshSomehow, IsAgainSomehow, fresh_joins, again_joins}
-use Rattle.mm_model.proofs.Below.{PathReaches, IsHeld, fresh_from, again_from, HasListedMessages, IsClearFromStart, own_values-append}
-use Rattle.mm_model.proofs.Below.{values_of-append, joined-values, has_value-append, values_of-clean, values_of-own, meets}
+-- Opt: from a sound history the verdict by digests is the verdict on the history. With it: Opt:
+-- what the tests of the verdict by digests say of both forms of a place.
 use Rattle.std.proofs.lemmas.Bool.{or_left, or_right, false_from_ne_true}
-use Rattle.mm_digest.specs.declared.digest.Digest.{Digest}
+use Rattle.std.proofs.lemmas.Bool.Decides.{Decides-or}
 use Rattle.std.proofs.lemmas.List.Elements.{Contains-append_left, Contains-append_right, Contains-push, Contains-push_cases}
-use Rattle.mm_model.proofs.Paths.{live_clean, path_of, shut_current}
-use Rattle.mm_model.proofs.Opt.{zero_tells, second_listed, fresh_somehow, again_somehow}
-use Rattle.mm_model.proofs.HistoryParts.{each_unmap, history_listed, LiveParts, live_parts, spoiled_parts, lost_test}
+use Rattle.mm_digest.specs.declared.digest.Digest.{Digest}
+use Rattle.mm_model.proofs.Below.{ℕ, ◌≡◌, Bool, true, false, ◌||◌, List, [], ◌∷◌, ◌++◌, refl, sym, ap, ◌∙◌, subst, ◌⊎◌, if◌then◌else◌}
+use Rattle.mm_model.proofs.Below.{Decides, bytes_eq, Contains, list_any, zero_bytes, anchored_message, anchored_digest_of, register_of}
+use Rattle.mm_model.proofs.Below.{anchor_of, is_empty, Point, forms_of, is_fresh_form, is_repeat_form, AreMessagesIn, IsClear}
+use Rattle.mm_model.proofs.Below.{register_trail, form_messages, point_messages, anchor-push, same_tests, IsFreshPath, IsFreshSomehow}
+use Rattle.mm_model.proofs.Below.{IsAgainPath, IsAgainSomehow, true_not_false, HasListedMessages, IsClearFromStart, point_of, fresh_tells}
+use Rattle.mm_model.proofs.Below.{again_tells, zero_register, listed_segment, reads_zero, ◌+◌, ◌&&◌, length, map, inl, inr, nat_eq}
+use Rattle.mm_model.proofs.Below.{AllByRecursion, append-nil, map-append, Opt, start_digest_of, Batch, size_of, guard_message}
+use Rattle.mm_model.proofs.Below.{closing_message, guard, own_values, Meaning, Place, InBasic, InOpt, Content, Instance, opt_instance}
+use Rattle.mm_model.proofs.Below.{RegisterEntry, History, items_of_all, total_of, register_value_of, values_of, cell_digest_of, has_value}
+use Rattle.mm_model.proofs.Below.{are_own, Life, Live, Spoiled, Lost, life_by, life_of, is_lost_life, verdict_by_digests, is_last}
+use Rattle.mm_model.proofs.Below.{verdict_by, opt_verdict, verdict_on, verdict_by_tests, IsPoint, IsPlaceOf, NamesPosition, anchor_after}
+use Rattle.mm_model.proofs.Below.{IsClearFor, messages_of, counted_entries, values_in, AreNoGuards, IsSound, IsClean, batches_in, each_left}
+use Rattle.mm_model.proofs.Below.{each_right, each_append, trail_front, same_own_values, at_the_end, before_the_last, verdicts}
+use Rattle.mm_model.proofs.Below.{items_taken_in, fresh_joins, again_joins, PathReaches, IsHeld, fresh_from, again_from, own_values-append}
+use Rattle.mm_model.proofs.Below.{values_of-append, joined-values, has_value-append, values_of-clean, values_of-own, meets}
+use Rattle.mm_model.proofs.Paths.{live_clean, path_of, shut_current, each_unmap, history_listed, LiveParts, live_parts, spoiled_parts}
+use Rattle.mm_model.proofs.Paths.{lost_test}
+
+-- Opt: what the tests of the verdict by digests say of both forms of a place.
+
+or_nothing : (x : Bool) → x ≡ (x || false)
+or_nothing true = refl
+or_nothing false = refl
+
+-- a test on some form of a place: there is a second one where its extension isn't zero
+on_forms : (A B : Type 0) (test : Point → Bool) (first second : Point) (rest : List (List ℕ)) (is_zero : Bool) → is_zero ≡ is_empty rest
+    → Decides (test first) A → (is_empty rest ≡ false → Decides (test second) B)
+    → Decides (list_any test (first ∷ (if is_zero then [] else second ∷ []))) (A ⊎ (is_empty rest ≡ false) × B)
+on_forms A B test first second rest true r da db =
+    Decides-or (test first) false da (λ t. absurd (true_not_false (sym t)), λ q. absurd (true_not_false (r ∙ q.0)))
+on_forms A B test first second rest false r da db =
+    Decides-or (test first) (test second || false) da (subst (λ x. Decides x ((is_empty rest ≡ false) × B)) (or_nothing (test second))
+    (λ t. (sym r, (db (sym r)).0 t), λ q. (db (sym r)).1 q.1))
+
+pub zero_tells : (all : List (List ℕ)) → IsClear all → (rest : List (List ℕ)) → AreMessagesIn (register_trail rest) all
+    → bytes_eq (register_of rest) zero_bytes ≡ is_empty rest
+zero_tells all clear [] l = (zero_register all clear [] l).1 refl
+zero_tells all clear (v ∷ rest) l =
+    same_tests _ _ (λ t. ap is_empty ((zero_register all clear (v ∷ rest) l).0 t)) (λ e. absurd (true_not_false (sym e)))
+
+module _ (id : ℕ) where
+  -- the second form
+  abbrev closed_point : List (List (List ℕ)) → List (List ℕ) → Point
+  closed_point before rest = record { anchor = anchored_digest_of (anchor_of id before) (register_of rest); extension = zero_bytes }
+
+  -- it is the point at the anchor after one more segment
+  second_is : (before : List (List (List ℕ))) (rest : List (List ℕ)) → point_of id (before ++ rest ∷ []) [] ≡ closed_point before rest
+  second_is before rest = λ j. record { anchor = anchor-push id before rest j; extension = reads_zero j }
+
+  -- the messages of its place, where there is one
+  pub second_listed : (all : List (List ℕ)) → IsClear all → (before : List (List (List ℕ))) (rest : List (List ℕ)) (v : List ℕ)
+      → HasListedMessages id all before rest → AreMessagesIn (point_messages (anchor_of id before) (register_of rest) v) all
+      → is_empty rest ≡ false
+      → Contains all (anchored_message (anchor_of id before) (register_of rest))
+      × AreMessagesIn (form_messages (anchored_digest_of (anchor_of id before) (register_of rest)) zero_bytes v) all
+  second_listed all clear before rest v l m some =
+      let there : bytes_eq (register_of rest) zero_bytes ≡ false = zero_tells all clear rest l.last ∙ some in rw there at m.1.1
+
+module _ (id : ℕ) (all : List (List ℕ)) (clears : IsClearFromStart id all) (flag : Bool) (closed : List (List (List ℕ)))
+    (items : List (List ℕ))
+    (before : List (List (List ℕ))) (rest : List (List ℕ)) (k : HasListedMessages id all closed items)
+    (l : HasListedMessages id all before rest) where
+  pub fresh_somehow : (is_empty rest ≡ false → Contains all (anchored_message (anchor_of id before) (register_of rest)))
+      → Decides (list_any (is_fresh_form flag (anchor_of id closed) (register_of items))
+      (forms_of (anchor_of id before) (register_of rest)))
+      (IsFreshSomehow flag closed items before rest)
+  fresh_somehow closes =
+      let test = is_fresh_form flag (anchor_of id closed) (register_of items) in
+      on_forms (IsFreshPath flag closed items before rest) (IsFreshPath flag closed items (before ++ rest ∷ []) []) test
+      (point_of id before rest)
+      (closed_point id before rest) rest (bytes_eq (register_of rest) zero_bytes) (zero_tells all clears.clear rest l.last)
+      (fresh_tells id all clears flag closed items before rest k l) (λ some.
+      subst (λ (x : Point). Decides (test x) (IsFreshPath flag closed items (before ++ rest ∷ []) [])) (second_is id before rest)
+      (fresh_tells id all clears flag closed items (before ++ rest ∷ []) [] k
+      (listed_segment id all before rest l.inner l.outer l.last (closes some))))
+
+  pub again_somehow : (v : List ℕ) → AreMessagesIn (point_messages (anchor_of id before) (register_of rest) v) all
+      → Decides (list_any (is_repeat_form flag (anchor_of id closed) (register_of items) v)
+      (forms_of (anchor_of id before) (register_of rest)))
+      (IsAgainSomehow flag closed items v before rest)
+  again_somehow v m =
+      let test = is_repeat_form flag (anchor_of id closed) (register_of items) v in
+      on_forms (IsAgainPath flag closed items v before rest) (IsAgainPath flag closed items v (before ++ rest ∷ []) []) test
+      (point_of id before rest)
+      (closed_point id before rest) rest (bytes_eq (register_of rest) zero_bytes) (zero_tells all clears.clear rest l.last)
+      (again_tells id all clears flag closed items v before rest k l (m.0, (m.1.0, tt))) (λ some.
+      let second = second_listed id all clears.clear before rest v l m some in
+      subst (λ (x : Point). AreMessagesIn (form_messages x.anchor x.extension v) all → Decides (test x)
+      (IsAgainPath flag closed items v (before ++ rest ∷ []) [])) (second_is id before rest)
+      (again_tells id all clears flag closed items v (before ++ rest ∷ []) [] k
+      (listed_segment id all before rest l.inner l.outer l.last second.0)) second.1)
+
+-- Opt: from a sound history the verdict by digests is the verdict on the history.
 
 -- the values that count, with the register's items where a segment is open
 counted_values : (barrier : List ℕ) (flag : Bool) (closed : List (List RegisterEntry)) (items : List RegisterEntry)

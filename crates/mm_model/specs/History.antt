@@ -1,9 +1,9 @@
--- The history of one instance as lists, with no digest in it, and the moves that change it.
-use Rattle.std.specs.Prelude.{ℕ, Bool, true, false, List, [], ◌∷◌, map, ◌++◌, length}
+-- The history of one instance as lists, with no digest in it, and the moves that change it. With
+-- it: what a commit does as a whole; the device steps of a call, each with the move that it makes.
 use Rattle.std.specs.List.{flat_map}
+use Rattle.std.specs.Prelude.{ℕ, Bool, true, false, List, [], ◌∷◌, map, ◌++◌, length}
 use Rattle.mm_model.specs.Below.{Variant, Basic, Opt, Batch, members_of}
-use Rattle.mm_model.specs.Chains.{guard, register_of}
-use Rattle.mm_model.specs.Instance.{Instance}
+use Rattle.mm_model.specs.Chains.{guard, register_of, Instance, summary_of, anchor_of}
 
 -- what a register took in: the value of a committed batch, or a value that stands for none
 pub data RegisterEntry : Type 0 where
@@ -91,3 +91,64 @@ history_after i y Power = record y { items = [] }
 -- the register's value for a history
 abbrev pub register_value_of : Instance → History → List ℕ
 register_value_of i y = register_of (map (extension_value i.barrier) y.items)
+
+abbrev pub values_of : List ℕ → List RegisterEntry → List (List ℕ)
+values_of barrier = map (extension_value barrier)
+
+-- the digest that a cell holds for a history: its summary or its anchor
+abbrev pub cell_digest_of : Instance → Variant → History → List ℕ
+cell_digest_of i Basic y = summary_of i.meaning.id y.batches
+cell_digest_of i Opt y = anchor_of i.meaning.id (map (values_of i.barrier) y.closed)
+
+-- What a commit does as a whole.
+
+-- the moves of a commit: where it opens a segment, its guard goes into the register first
+abbrev pub commit_moves : Variant → Bool → Batch → List Move
+commit_moves Opt false b = Placed b ∷ Commit b ∷ []
+commit_moves _ _ b = Commit b ∷ []
+
+-- the history after these moves
+abbrev pub history_after_moves : Instance → History → List Move → History
+history_after_moves i y [] = y
+history_after_moves i y (m ∷ moves) = history_after_moves i (history_after i y m) moves
+
+-- the batches that are open once a batch is committed: those before, where a segment was open
+abbrev pub open_batches_after : Bool → List Batch → Batch → List Batch
+open_batches_after true current b = current ++ b ∷ []
+open_batches_after false current b = b ∷ []
+
+-- a batch is committed, as a whole
+abbrev pub with_batch : Variant → History → Batch → History
+with_batch Basic y b = record y { batches = y.batches ++ b ∷ [] }
+with_batch Opt y b = record y {
+  batches = y.batches ++ b ∷ [];
+  current = open_batches_after y.is_open y.current b;
+  is_open = true;
+  items = y.items ++ Own b ∷ [];
+}
+
+-- The device steps of a call, each with the move that it makes.
+
+-- a step reads; or changes the register, after what others put there before it; or writes the cell,
+-- and then its move stands before what others put into the register in the meantime
+pub data DeviceStep : Type 0 where
+  Reads : DeviceStep
+  Changes : Move → DeviceStep
+  Writes : Move → DeviceStep
+
+-- the steps of a call that asks for the batch, where it isn't refused before its last reading step:
+-- by whether a segment is open and the verdict was Fresh
+abbrev pub ask_steps : Variant → Bool → Bool → Batch → List DeviceStep
+ask_steps Basic is_open false b = Reads ∷ []
+ask_steps Basic is_open true b = Reads ∷ Writes (Commit b) ∷ []
+ask_steps Opt is_open false b = Reads ∷ Reads ∷ []
+ask_steps Opt true true b = Reads ∷ Reads ∷ Changes (Commit b) ∷ []
+ask_steps Opt false true b =
+    Reads ∷ Reads ∷ Changes Reset ∷ Changes (Placed b) ∷ Writes (Commit b) ∷ []
+
+-- the steps of a checkpoint: by whether a segment is open and the register reads zero
+abbrev pub checkpoint_steps : Variant → Bool → Bool → List DeviceStep
+checkpoint_steps Basic is_open is_zero = Reads ∷ []
+checkpoint_steps Opt false is_zero = Reads ∷ []
+checkpoint_steps Opt true true = Reads ∷ Reads ∷ []
+checkpoint_steps Opt true false = Reads ∷ Reads ∷ Writes Close ∷ []

@@ -1,17 +1,19 @@
 -- The messages that are hashed, as far as a proof looks at them, and what is asked of their
--- digests.
-use Rattle.std.specs.Prelude.{ℕ, ◌-◌, Bool, true, List, [], ◌∷◌, map, take, drop, if◌then◌else◌, ◌≡◌, ◌≢◌, ◌++◌, length}
+-- digests. With it: where an offer stands, told by the verdict alone; the numbers of the refusals.
 use Rattle.std.specs.List.{flat_map, AllByRecursion, Contains}
+use Rattle.std.specs.Prelude.{ℕ, ◌-◌, Bool, true, List, [], ◌∷◌, map, take, drop, if◌then◌else◌, ◌≡◌, ◌≢◌, ◌++◌, length, false}
 use Rattle.std.specs.Str.{bytes_eq}
 use Rattle.mm_model.specs.Below.{sha256, zero_bytes, start_message, start_digest_of, extended_message, extended_digest_of, anchored_message}
 use Rattle.mm_model.specs.Below.{anchored_digest_of, Variant, Basic, Opt, Place, InBasic, InOpt, Batch}
-use Rattle.mm_model.specs.Chains.{trail, link_message, guard_message, closing_message, guard}
-use Rattle.mm_model.specs.ChainsWords.{own_values}
-use Rattle.mm_model.specs.Instance.{Instance}
+use Rattle.mm_model.specs.Chains.{trail, link_message, guard_message, closing_message, guard, own_values, Instance}
+use Rattle.mm_model.specs.declared.refusal.Refusal.{Refusal}
+use Rattle.mm_model.specs.declared.refusal.Refusal.TheVariants.{Memory, Long, Device, Blank, Cell, Lost, Form, Kind, State, Tag, Stale}
+use Rattle.mm_model.specs.declared.refusal.Refusal.TheVariants.{Full}
+use Rattle.mm_model.specs.declared.verdict.Verdict.{Verdict}
+use Rattle.mm_model.specs.declared.verdict.Verdict.TheVariants.{Fresh}
 use Rattle.mm_model.specs.History.{RegisterEntry, Own, Value, History, Move, Commit, Foreign, Placed, Close, register_value_of}
-use Rattle.mm_model.specs.History.{items_of_all}
-use Rattle.mm_model.specs.HistoryWords.{values_of}
-use Rattle.mm_model.specs.Places.{anchor_after}
+use Rattle.mm_model.specs.History.{items_of_all, values_of}
+use Rattle.mm_model.specs.Standing.{anchor_after}
 
 -- the batches of each closed segment: a segment runs to the next start, the last one to the end of
 -- these
@@ -115,3 +117,35 @@ pub record IsClearFor (all : List (List ℕ)) (i : Instance) (y : History) (offe
   pub history : AreMessagesIn (history_messages i y) all
   pub call : AreMessagesIn (offer_messages i offered b) all
   pub foreign : AreNoGuards i.barrier (values_in (counted_entries y)) (b ∷ y.batches)
+
+abbrev pub move_messages : Instance → History → Move → List (List ℕ)
+move_messages i y m = messages_for_move i.variant y.is_open i y m
+
+-- Where an offer stands, told by the verdict alone.
+
+-- the offer stands where the module stands: a batch would be a new one
+abbrev pub is_new : Verdict → Bool
+is_new Fresh = true
+is_new _ = false
+
+-- the messages of an offered place without a batch: of its second form, the closing of its segment
+abbrev pub place_messages : Place → List (List ℕ)
+place_messages (InBasic s) = []
+place_messages (InOpt a e) =
+    if bytes_eq e.bytes zero_bytes then [] else anchored_message a.bytes e.bytes ∷ []
+
+-- The numbers of the refusals.
+
+abbrev pub code_of : Refusal → ℕ
+code_of Memory = 1
+code_of Long = 2
+code_of (Device fault) = 3
+code_of Blank = 4
+code_of Cell = 5
+code_of Lost = 6
+code_of Form = 7
+code_of Kind = 8
+code_of State = 9
+code_of Tag = 10
+code_of Stale = 11
+code_of Full = 12

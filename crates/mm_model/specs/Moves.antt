@@ -1,17 +1,15 @@
--- When a move is made, and what it does to the digests.
-use Rattle.std.specs.Prelude.{ℕ, Bool, true, false, List, [], ◌∷◌, ◌≡◌, ◌+◌, ◌++◌}
-use Rattle.std.specs.List.{AllByRecursion, Contains}
+-- When a move is made, and what it does to the digests. With it: a batch that runs member by
+-- member; the sizes of an answer; which batches are too long to be asked.
+use Rattle.std.specs.List.{AllByRecursion, Contains, list_any}
+use Rattle.std.specs.Prelude.{ℕ, Bool, true, false, List, [], ◌∷◌, ◌≡◌, ◌+◌, ◌++◌, drop, IsTrue, All, ◌≤◌, length, ◌==◌, nat_lt, ◌||◌}
 use Rattle.mm_model.specs.Below.{zero_bytes, extended_message, extended_digest_of, anchored_digest_of, Variant, Basic, Opt, Batch, size_of}
-use Rattle.mm_model.specs.Chains.{link, guard, guard_message, register_of}
-use Rattle.mm_model.specs.ChainsWords.{own_values}
-use Rattle.mm_model.specs.Instance.{Instance}
+use Rattle.mm_model.specs.Below.{Meaning, outputs_from, state_from, last_position, IsLine, longest_request, most_members, batch_text}
+use Rattle.mm_model.specs.Chains.{link, guard, guard_message, register_of, own_values, Instance}
+use Rattle.mm_model.specs.declared.answer.BatchAnswer.{BatchAnswer}
 use Rattle.mm_model.specs.History.{RegisterEntry, Value, History, Move, Commit, Foreign, Placed, Reset, Close, Power, items_of_all}
-use Rattle.mm_model.specs.History.{total_of, register_value_of, entries_with_last_batch}
-use Rattle.mm_model.specs.HistoryWords.{cell_digest_of}
-use Rattle.mm_model.specs.Life.{is_empty, has_value}
-use Rattle.mm_model.specs.Sound.{batches_in}
+use Rattle.mm_model.specs.History.{total_of, register_value_of, entries_with_last_batch, cell_digest_of}
 use Rattle.mm_model.specs.Messages.{values_in, counted_entries}
-use Rattle.mm_model.specs.Standing.{flag_of}
+use Rattle.mm_model.specs.Standing.{is_empty, has_value, batches_in, flag_of}
 
 -- A batch may open a segment: no closed one is spoiled, and the register was emptied before, then
 -- took in values that stand for no batch, and last the guard of this one.
@@ -94,3 +92,37 @@ batch_messages i y (Commit b) =
     guard_message i.barrier b ∷ extended_message (register_of (own_values i.barrier y.current))
     (guard i.barrier b) ∷ []
 batch_messages i y _ = []
+
+-- A batch that runs member by member.
+
+-- These are the state and the outputs once the first members were run, from a state: what is left
+-- leads to the end.
+pub record IsPartialRun (meaning : Meaning) (start : List ℕ) (members : List (List ℕ)) (count : ℕ)
+    (state : List ℕ)
+    (outputs : List (List ℕ)) : Type 0 where
+  pub state_is : state_from meaning state (drop count members) ≡ state_from meaning start members
+  pub outputs_are : outputs ++ outputs_from meaning state (drop count members) ≡ outputs_from
+      meaning start members
+  pub spelled : IsTrue (meaning.is_spelled state)
+
+-- The sizes of an answer.
+
+-- The answer to the batch has a position from 1 to 2^48, a line for each request, and a snapshot
+-- that is no longer than the longest: 82 bytes before a state of 1,048,576 bytes, and a tag of 32.
+pub record IsFit (b : Batch) (answer : BatchAnswer) : Type 0 where
+  pub least : 1 ≤ answer.position
+  pub most : answer.position ≤ last_position
+  pub counted : length answer.outputs ≡ size_of b
+  pub lines : All IsLine answer.outputs
+  pub snapshot : length answer.snapshot ≤ 1048690
+
+-- Which batches are too long to be asked.
+
+-- its text has more than 4,096 bytes or an LF, which is 10, or it has more than 64 requests
+abbrev pub is_long : Batch → Bool
+is_long b =
+    nat_lt longest_request (length (batch_text b)) || list_any (λ byte. byte == 10) (batch_text b)
+    || nat_lt most_members (size_of b)
+
+abbrev pub is_lf : ℕ → Bool
+is_lf byte = byte == 10

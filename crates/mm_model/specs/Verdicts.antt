@@ -1,14 +1,19 @@
 -- The verdict on an offered position: from a history, which knows no digest, and from digests
--- alone.
-use Rattle.std.specs.Prelude.{ℕ, Bool, true, false, List, [], ◌∷◌, if◌then◌else◌, nat_eq, ◌+◌, ◌&&◌}
+-- alone. With it: owned batches and entries, as the lists of a history.
 use Rattle.std.specs.List.{list_any}
+use Rattle.std.specs.Prelude.{ℕ, Bool, true, false, List, [], ◌∷◌, if◌then◌else◌, nat_eq, ◌+◌, ◌&&◌, Vec, map}
 use Rattle.std.specs.Str.{bytes_eq}
+use Rattle.mm_module.specs.Batch as ghost_batch
 use Rattle.mm_model.specs.Below.{zero_bytes, anchored_digest_of, extended_digest_of, Variant, Place, InBasic, InOpt, Batch, size_of}
 use Rattle.mm_model.specs.Chains.{link, guard}
-use Rattle.mm_model.specs.History.{History, total_of}
-use Rattle.mm_model.specs.Life.{Life, Live, Lost as LostLife, life_of, is_same_batch}
+use Rattle.mm_model.specs.declared.kept.KeptBatch.{KeptBatch}
+use Rattle.mm_model.specs.declared.kept.KeptBatch.TheVariants.{One, Many}
+use Rattle.mm_model.specs.declared.kept.KeptEntry.{KeptEntry}
+use Rattle.mm_model.specs.declared.kept.KeptEntry.TheVariants as kept
 use Rattle.mm_model.specs.declared.verdict.Verdict.{Verdict}
 use Rattle.mm_model.specs.declared.verdict.Verdict.TheVariants.{Fresh, Again, Lost, Stale}
+use Rattle.mm_model.specs.History.{History, total_of, RegisterEntry, Own, Value}
+use Rattle.mm_model.specs.Standing.{Life, Live, Lost as LostLife, life_of, is_same_batch}
 
 -- the last of the batches is b
 abbrev pub is_last : List Batch → Batch → Bool
@@ -80,3 +85,33 @@ abbrev pub verdict_by_digests : List ℕ → Bool → List ℕ → List ℕ → 
 verdict_by_digests barrier flag digest register (InBasic s) b = basic_verdict digest s.bytes b
 verdict_by_digests barrier flag digest register (InOpt a e) b =
     opt_verdict flag digest register (forms_of a.bytes e.bytes) (guard barrier b)
+
+-- Owned batches and entries, as the lists of a history.
+
+abbrev pub kept_batch : KeptBatch → ghost_batch.Batch
+kept_batch (One request) = ghost_batch.One request
+kept_batch (Many text) = ghost_batch.Many text
+
+abbrev pub kept_batches : List KeptBatch → List ghost_batch.Batch
+kept_batches batches = map kept_batch batches
+
+abbrev pub kept_entry : KeptEntry → RegisterEntry
+kept_entry (kept.Own batch) = Own (kept_batch batch)
+kept_entry (kept.Value value) = Value value.bytes
+
+abbrev pub kept_entries : List KeptEntry → List RegisterEntry
+kept_entries entries = map kept_entry entries
+
+-- the entry is the batch's own
+abbrev pub is_entry_of : RegisterEntry → ghost_batch.Batch → Bool
+is_entry_of (Own b) c = is_same_batch b c
+is_entry_of (Value d) c = false
+
+abbrev pub kept_segments : {A : Type 0} → List (Vec KeptEntry A) → List (List RegisterEntry)
+kept_segments {A} segments =
+    map (λ (segment : Vec KeptEntry A). kept_entries segment.items) segments
+
+-- a variant, and a history of it
+pub record KeptHistory : Type 0 where
+  pub variant : Variant
+  pub history : History

@@ -8,7 +8,7 @@ use mm_digest::{Digest, secured, secured_batch, successor, successor_batch};
 use mm_module::Batch;
 
 /// The summary behind this one, after one more batch.
-#[tactic(auto, unfolding(crate::specs::Chains::link, mm_digest::specs::MessagesWords::successor_digest_of, mm_digest::specs::MessagesWords::successor_batch_digest_of))]
+#[tactic(auto, unfolding(crate::specs::Chains::link, mm_digest::specs::Messages::successor_digest_of, mm_digest::specs::Messages::successor_batch_digest_of))]
 pub fn link(summary: &Digest, batch: Batch<'_>) -> Digest
     ensures { result.bytes ≡ link summary.now.bytes (batch_of batch.entry) }
 {
@@ -19,7 +19,7 @@ pub fn link(summary: &Digest, batch: Batch<'_>) -> Digest
 }
 
 /// The value by which a batch extends the register.
-#[tactic(auto, unfolding(crate::specs::Chains::guard, mm_digest::specs::MessagesWords::secured_digest_of, mm_digest::specs::MessagesWords::secured_batch_digest_of))]
+#[tactic(auto, unfolding(crate::specs::Chains::guard, mm_digest::specs::Messages::secured_digest_of, mm_digest::specs::Messages::secured_batch_digest_of))]
 pub fn guard(barrier: &[u8; 32], batch: Batch<'_>) -> Digest
     ensures { result.bytes ≡ guard barrier.now (batch_of batch.entry) }
 {

@@ -1,12 +1,10 @@
 //! Batches and entries of a history, owned.
 
 ghost use Rattle.std.specs.Prelude.{◌≡◌, ◌<◌, map, IfOk, OnOk, vec_len, vec_capacity};
-ghost use Rattle.mm_module.specs.Batch.{normal_batch};
-ghost use Rattle.mm_module.specs.BatchWords.{has_tab};
+ghost use Rattle.mm_module.specs.Batch.{normal_batch, has_tab};
 ghost use Rattle.mm_module.specs.Batches.{batch_of};
-ghost use Rattle.mm_model.specs.Life.{is_same_batch, has_value};
-ghost use Rattle.mm_model.specs.Verdicts.{is_last};
-ghost use Rattle.mm_model.specs.KeptHistory.{kept_batch, kept_batches, kept_entry, kept_entries};
+ghost use Rattle.mm_model.specs.Standing.{is_same_batch, has_value};
+ghost use Rattle.mm_model.specs.Verdicts.{is_last, kept_batch, kept_batches, kept_entry, kept_entries};
 
 use mm_bytes::{Bytes, Memory};
 use mm_digest::Digest;

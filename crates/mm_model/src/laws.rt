@@ -8,24 +8,21 @@ ghost use Rattle.std.specs.Str.{bytes_eq};
 ghost use Rattle.std.specs.List.{Contains, AllByRecursion};
 ghost use Rattle.mm_digest.specs.declared.variant.Variant.TheVariants.{Basic, Opt};
 ghost use Rattle.mm_digest.specs.Messages.{zero_bytes, start_message, start_digest_of, extended_digest_of, anchored_digest_of};
-ghost use Rattle.mm_digest.specs.MessagesWords.{successor_message, secured_message, successor_digest_of, secured_digest_of, successor_batch_digest_of, secured_batch_digest_of};
+ghost use Rattle.mm_digest.specs.Messages.{successor_message, secured_message, successor_digest_of, secured_digest_of};
+ghost use Rattle.mm_digest.specs.Messages.{successor_batch_digest_of, secured_batch_digest_of};
 ghost use Rattle.mm_module.specs.Batch.{Batch, One, Many};
 ghost use Rattle.mm_module.specs.Meaning.{Meaning};
-ghost use Rattle.mm_model.specs.Chains.{trail, link_message, guard_message, closing_message, link, guard, summary_of, register_of, anchor_of};
-ghost use Rattle.mm_model.specs.Instance.{Instance};
-ghost use Rattle.mm_model.specs.InstanceWords.{basic_instance, opt_instance};
-ghost use Rattle.mm_model.specs.History.{History, register_value_of};
-ghost use Rattle.mm_model.specs.HistoryWords.{cell_digest_of};
+ghost use Rattle.mm_model.specs.Chains.{trail, link_message, guard_message, closing_message, link, guard, summary_of, register_of};
+ghost use Rattle.mm_model.specs.Chains.{anchor_of, Instance, basic_instance, opt_instance};
+ghost use Rattle.mm_model.specs.History.{History, register_value_of, cell_digest_of};
 ghost use Rattle.mm_platform.specs.Standing.{register_after as folded_of};
 ghost use Rattle.mm_seal.specs.Snapshot.{Content};
-ghost use Rattle.mm_model.specs.Places.{NamesPosition};
+ghost use Rattle.mm_model.specs.Standing.{NamesPosition, is_lost, life_of, Spoiled, Lost as LostLife, IsSound};
 ghost use Rattle.mm_model.specs.Verdicts.{verdict_on, verdict_by_digests};
-ghost use Rattle.mm_model.specs.Messages.{AreMessagesIn, IsClear, IsClearFor, history_messages, offer_messages, register_trail, AreNoGuards, values_in, counted_entries};
-ghost use Rattle.mm_model.specs.Life.{is_lost, life_of, Spoiled, Lost as LostLife};
+ghost use Rattle.mm_model.specs.Messages.{AreMessagesIn, IsClear, IsClearFor, history_messages, offer_messages, register_trail};
+ghost use Rattle.mm_model.specs.Messages.{AreNoGuards, values_in, counted_entries, is_new, place_messages};
 ghost use Rattle.mm_model.specs.declared.verdict.Verdict.TheVariants.{Lost, Stale};
 ghost use Rattle.mm_seal.specs.declared.snapshot.Place.{Place};
-ghost use Rattle.mm_model.specs.Sound.{IsSound};
-ghost use Rattle.mm_model.specs.PlaceMessages.{is_new, place_messages};
 
 /// A batch of one request has the messages and digests of that request, and a batch of several
 /// those of its text.

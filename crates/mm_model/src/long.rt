@@ -3,8 +3,7 @@
 ghost use Rattle.std.specs.Prelude.{◌≡◌, ◌==◌};
 ghost use Rattle.std.specs.List.{list_any};
 ghost use Rattle.mm_module.specs.Batches.{batch_of};
-ghost use Rattle.mm_model.specs.Long.{is_long};
-ghost use Rattle.mm_model.specs.LongWords.{is_lf};
+ghost use Rattle.mm_model.specs.Moves.{is_long, is_lf};
 
 use mm_bytes::{LONGEST_REQUEST, MOST_MEMBERS};
 use mm_module::Batch;

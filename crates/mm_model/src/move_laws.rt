@@ -7,17 +7,13 @@ ghost use Rattle.mm_digest.specs.declared.variant.Variant.TheVariants.{Basic, Op
 ghost use Rattle.mm_module.specs.Batch.{Batch};
 ghost use Rattle.mm_module.specs.Meaning.{Meaning};
 ghost use Rattle.mm_seal.specs.Snapshot.{Content};
-ghost use Rattle.mm_model.specs.Chains.{link_message, summary_of};
-ghost use Rattle.mm_model.specs.InstanceWords.{basic_instance, opt_instance};
-ghost use Rattle.mm_model.specs.History.{History, Move, Commit, first_history, items_of_all, history_after};
-ghost use Rattle.mm_model.specs.Life.{has_value};
-ghost use Rattle.mm_model.specs.Sound.{IsSound};
+ghost use Rattle.mm_model.specs.Chains.{link_message, summary_of, basic_instance, opt_instance};
+ghost use Rattle.mm_model.specs.History.{History, Move, Commit, first_history, items_of_all, history_after, commit_moves};
+ghost use Rattle.mm_model.specs.History.{history_after_moves, with_batch};
+ghost use Rattle.mm_model.specs.Standing.{has_value, IsSound, NamesPosition, content_of_issue};
 ghost use Rattle.mm_model.specs.Verdicts.{verdict_on};
 ghost use Rattle.mm_model.specs.declared.verdict.Verdict.TheVariants.{Fresh};
-ghost use Rattle.mm_model.specs.Places.{NamesPosition, content_of_issue};
-ghost use Rattle.mm_model.specs.Messages.{AreMessagesIn, IsClearFor, history_messages};
-ghost use Rattle.mm_model.specs.MessagesWords.{move_messages};
-ghost use Rattle.mm_model.specs.CommitMoves.{commit_moves, history_after_moves, with_batch};
+ghost use Rattle.mm_model.specs.Messages.{AreMessagesIn, IsClearFor, history_messages, move_messages};
 ghost use Rattle.mm_model.specs.Moves.{MayMove, digests_of, digests_after, IsOutside, MoveBrings, batch_messages};
 
 /// Opt: the first history is sound, and each move leads from a sound history to a sound one.

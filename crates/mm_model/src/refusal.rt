@@ -69,7 +69,7 @@ impl From<StepFault> for Refusal {
 }
 
 impl Refusal {
-    ghost use Rattle.mm_model.specs.Codes.{code_of};
+    ghost use Rattle.mm_model.specs.Messages.{code_of};
 
     /// The refusal's number, from 1 to 12.
     pub fn code(&self) -> u8

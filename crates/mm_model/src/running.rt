@@ -1,12 +1,10 @@
 //! A batch that runs in memory.
 
 ghost use Rattle.std.specs.Prelude.{◌≡◌, ◌<◌, ◌++◌, [], ◌∷◌, false, IfOk, OnOk, IsTrue, Some, slice_get};
-ghost use Rattle.mm_module.specs.Meaning.{IsLine, outputs_from};
-ghost use Rattle.mm_module.specs.MeaningWords.{state_from};
+ghost use Rattle.mm_module.specs.Meaning.{IsLine, outputs_from, state_from};
 ghost use Rattle.mm_module.specs.Batch.{members_of, size_of};
 ghost use Rattle.mm_module.specs.Batches.{batch_of};
-ghost use Rattle.mm_model.specs.Long.{is_long};
-ghost use Rattle.mm_model.specs.PartialRun.{IsPartialRun};
+ghost use Rattle.mm_model.specs.Moves.{is_long, IsPartialRun};
 
 use mm_bytes::{Bytes, Memory};
 use mm_module::{Batch, Module, Outputs, Stepped};

@@ -2,4 +2,4 @@
 pub use Rattle.std.proofs.Common.{rules, tests}
 pub use Rattle.std.proofs.lemmas.Iterator.Consumers.{count_from_yields_List, nth_from_yields_List}
 pub use Rattle.std.proofs.lemmas.Iterator.Splits.{YieldsList-from_slice_split}
-pub use Rattle.mm_module.specs.BatchWords.{is_tab}
+pub use Rattle.mm_module.specs.Batch.{is_tab}

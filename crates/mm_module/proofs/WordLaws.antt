@@ -5,8 +5,7 @@ use Rattle.std.specs.List.{onto_first, position, position_or_len}
 use Rattle.std.specs.Option.{MatchOption}
 use Rattle.std.proofs.lemmas.List.Splits.{slice_split_first, length-slice_split}
 use Rattle.std.proofs.lemmas.Bool.Decides.{nat_tests}
-use Rattle.mm_module.specs.Words.{words_of}
-use Rattle.mm_module.specs.WordsWords.{is_space}
+use Rattle.mm_module.specs.Meaning.{words_of, is_space}
 
 one_word-step : (flag : Bool) (x : ℕ) (xs : List ℕ) → suc (length xs) ≤ cond (not flag) (1 + position_or_len is_space xs) 0
     → (length xs ≤ position_or_len is_space xs → words_of xs ≡ xs ∷ [])

@@ -1,9 +1,8 @@
 //! The counter: a value of 64 bits that requests read and add to.
 
 ghost use Rattle.std.specs.Prelude.{◌≡◌, IfOk, IsTrue};
-ghost use Rattle.mm_module.specs.Words.{words_of};
-ghost use Rattle.mm_module.specs.CounterTable.{request_of, outcome_of, text_of, counter};
-ghost use Rattle.mm_module.specs.CounterLaws.{counter_is_lawful, counter_is_short};
+ghost use Rattle.mm_module.specs.Meaning.{words_of, request_of, outcome_of, text_of, counter};
+ghost use Rattle.mm_module.specs.RunLaws.{counter_is_lawful, counter_is_short};
 
 use crate::modules::{Module, Short, Stepped};
 use crate::texts::u64_of_bytes;
@@ -78,7 +77,7 @@ fn text(alloc: Global, says: Output) -> Result<Bytes, Memory>
     }
 }
 
-#[tactic(auto, unfolding(crate::specs::CounterTable::outcome_of_bytes, crate::specs::CounterTable::is_state))]
+#[tactic(auto, unfolding(crate::specs::Meaning::outcome_of_bytes, crate::specs::Meaning::is_state))]
 impl Module for Counter {
     ghost meaning = { λ _. counter };
 

@@ -23,7 +23,7 @@ pub struct Outputs {
 
 impl Model for Outputs {
     ghost use Rattle.std.specs.Prelude.{List, ℕ};
-    ghost use Rattle.mm_module.specs.Outputs.{listed_outputs};
+    ghost use Rattle.mm_module.specs.Meaning.{listed_outputs};
 
     ghost Value = { List (List ℕ) };
 

@@ -3,14 +3,14 @@
 ghost use Rattle.std.specs.Prelude.{◌≡◌, ◌++◌, length, IfOk};
 ghost use Rattle.std.specs.Fmt.{decimal};
 ghost use Rattle.std.specs.List.{list_all};
-ghost use Rattle.mm_module.specs.Numbers.{number_of_eight_bytes};
-ghost use Rattle.mm_module.specs.Visible.{is_visible};
+ghost use Rattle.mm_module.specs.Batch.{number_of_eight_bytes};
+ghost use Rattle.mm_module.specs.Meaning.{is_visible};
 
 use mm_bytes::{Bytes, Memory, put_decimal};
 use std::alloc::Global;
 
 /// The number in 8 bytes, the greatest first.
-#[tactic(auto, unfolding(crate::specs::Numbers::number_of_eight_bytes))]
+#[tactic(auto, unfolding(crate::specs::Batch::number_of_eight_bytes))]
 pub fn u64_of_bytes(bytes: &[u8]) -> u64
     requires { length bytes.now ≡ 8 }
     ensures { result ≡ number_of_eight_bytes bytes.now }

@@ -2,8 +2,7 @@
 
 ghost use Rattle.std.specs.Prelude.{◌≡◌, ◌∷◌, option_copied};
 ghost use Rattle.std.specs.List.{position};
-ghost use Rattle.mm_module.specs.Words.{words_of, words_after};
-ghost use Rattle.mm_module.specs.WordsWords.{is_space};
+ghost use Rattle.mm_module.specs.Meaning.{words_of, words_after, is_space};
 
 /// The words of a request, which single spaces part. Two spaces in a row have an empty word between
 /// them.
@@ -37,7 +36,7 @@ fn first_word(text: &[u8]) -> (&[u8], Option<&[u8]>)
 }
 
 impl<'a> Words<'a> {
-    ghost use Rattle.mm_module.specs.Words.{words_of};
+    ghost use Rattle.mm_module.specs.Meaning.{words_of};
     ghost use Rattle.mm_module.specs.WordForms.{HasWords};
 
     /// The words of a request.

@@ -3,17 +3,16 @@ use Rattle.std.specs.Prelude.{◌≡◌, ℕ, ◌≤◌, ◌==◌, List, [], ◌
 use Rattle.std.specs.List.{find}
 use Rattle.std.proofs.Common.{refl, arith}
 use Rattle.std.specs.Str.{bytes_eq}
-use Rattle.mm_module.specs.CounterLaws.{counter_is_short}
-use Rattle.mm_module.specs.CounterTable.{counter}
-use Rattle.mm_module.specs.Meaning.{Meaning}
+use Rattle.mm_module.specs.RunLaws.{counter_is_short}
+use Rattle.mm_module.specs.Meaning.{counter, Meaning}
 use Rattle.mm_listing.specs.CounterListing.{counter_is_listed, counter_listing}
 use Rattle.mm_listing.specs.Listing.{IsListing, Listing}
 use Rattle.mm_dispenser.specs.DispenserListing.{dispenser_is_listed, dispenser_listing}
 use Rattle.mm_limiter.specs.LimiterLaws.{limiter_is_short}
 use Rattle.mm_limiter.specs.LimiterListing.{limiter_is_listed, limiter_listing}
 use Rattle.mm_limiter.specs.Table.{limiter}
-use Rattle.mm_quota.specs.Ids.{small_ledger, small_ledger_is_short}
-use Rattle.mm_quota.specs.LedgerListings.{ledger_is_listed, ledger_listing, quota_is_listed, quota_listing}
+use Rattle.mm_quota.specs.LedgerListings.{small_ledger, small_ledger_is_short, ledger_is_listed, ledger_listing, quota_is_listed}
+use Rattle.mm_quota.specs.LedgerListings.{quota_listing}
 use Rattle.mm_receipted.specs.ReceiptListing.{receipt_is_listed, receipt_listing}
 use Rattle.mm_modules.specs.declared.any.AnyModule.{AnyModule}
 use Rattle.mm_modules.specs.declared.any.AnyModule.TheVariants.{Counter, Limiter, Quota, Ledger, Dispenser, ReceiptCounter, ReceiptLimiter}

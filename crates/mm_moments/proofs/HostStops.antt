@@ -10,29 +10,22 @@ use Rattle.mm_model.specs.ListLaws.{each_append}
 use Rattle.mm_model.specs.declared.answer.Answer.{Answer}
 use Rattle.mm_model.specs.declared.refusal.Refusal.{Refusal}
 use Rattle.mm_model.specs.declared.refusal.Refusal.TheVariants.{Device}
-use Rattle.mm_store.specs.Calls.{ReadsSlot, WritesSlot}
+use Rattle.mm_store.specs.StoreStanding.{ReadsSlot, WritesSlot, StoreStanding}
 use Rattle.mm_store.specs.PendingRecord.{PendingRecord, pending_spelling}
-use Rattle.mm_store.specs.StoreStanding.{StoreStanding}
 use Rattle.mm_store.specs.declared.fault.StoreFault.{StoreFault}
 use Rattle.mm_store.specs.declared.fault.StoreFault.TheVariants as fault
-use Rattle.mm_recovery.specs.HostCall.{IsCall}
-use Rattle.mm_recovery.specs.HostStanding.{HostStanding, host_standing}
-use Rattle.mm_recovery.specs.LastAnswer.{position_at, snapshot_at}
-use Rattle.mm_recovery.specs.NextRequest.{AsksNextRequest, HostGoesAfterRecord, record_for}
-use Rattle.mm_recovery.specs.Resumption.{AsksAndKeepsAnswer, HostGoesAfterFinding, HostGoesAfterOffer}
-use Rattle.mm_recovery.specs.Resumption.{HostResumes}
-use Rattle.mm_recovery.specs.SlotFit.{offer_slot}
+use Rattle.mm_recovery.specs.HostStanding.{IsCall, HostStanding, host_standing, position_at, snapshot_at, AsksNextRequest}
+use Rattle.mm_recovery.specs.HostStanding.{HostGoesAfterRecord, record_for, AsksAndKeepsAnswer, HostGoesAfterFinding, HostGoesAfterOffer}
+use Rattle.mm_recovery.specs.HostStanding.{HostResumes, offer_slot}
 use Rattle.mm_recovery.specs.declared.fault.HostFault.{HostFault}
 use Rattle.mm_recovery.specs.declared.fault.HostFault.TheVariants.{Memory, Refused, Store}
 use Rattle.mm_recovery.specs.declared.resuming.Resumed.{Resumed}
 use Rattle.mm_host.specs.Sessions.{reply_text}
-use Rattle.mm_life.specs.Deeds.{LifeCall}
-use Rattle.mm_life.specs.SessionCalls.{first_calls, found_record, line_calls, one_call}
-use Rattle.mm_moments.specs.KilledSessions.{IsWriteOfSlot}
+use Rattle.mm_life.specs.Deeds.{LifeCall, first_calls, found_record, line_calls, one_call}
+use Rattle.mm_moments.specs.MortalLives.{IsWriteOfSlot}
 use Rattle.mm_moments.specs.Moments.{HostMoment, MomentLeaves, StepMoment, asking_moments, call_moments, first_moments, found_moments}
 use Rattle.mm_moments.specs.Moments.{in_host, keeping_moments, line_moments, offered_moments, recorded_moments, third_slot_moments}
-use Rattle.mm_moments.proofs.CallStops.{CallStops, call_stops}
-use Rattle.mm_moments.proofs.Each.{each_map, each_so}
+use Rattle.mm_moments.proofs.Counting.{CallStops, call_stops, each_map, each_so}
 
 -- nothing is told of the fault, nothing was sent, and the store failed only where a slot was written
 pub record IsSilent (next : DeviceCall) (why : HostFault) (sent : List ℕ) : Type 0 where

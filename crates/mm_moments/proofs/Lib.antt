@@ -1,11 +1,7 @@
-mod Each
-mod CallStops
-mod ClosingStops
 mod Counting
-mod HostStops
 mod LineStops
+mod HostStops
 mod SessionStops
 mod MortalEnds
-mod MortalTurns
 mod MortalLaws
 pub mod Above

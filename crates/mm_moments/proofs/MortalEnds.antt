@@ -5,39 +5,34 @@ use Rattle.mm_digest.specs.declared.variant.Variant.{Variant}
 use Rattle.mm_platform.specs.Standing.{Item, Standing}
 use Rattle.mm_platform.specs.declared.fault.StepFault.{StepFault}
 use Rattle.mm_module.specs.Meaning.{IsLawful, Meaning}
-use Rattle.mm_model.specs.Instance.{Instance}
-use Rattle.mm_call.specs.Refusals.{fault_of}
+use Rattle.mm_model.specs.Chains.{Instance}
+use Rattle.mm_call.specs.CallFinding.{fault_of}
 use Rattle.mm_store.specs.PendingRecord.{PendingRecord}
-use Rattle.mm_store.specs.Slots.{slot_front}
-use Rattle.mm_store.specs.StoreStanding.{StoreStanding}
+use Rattle.mm_store.specs.StoreStanding.{slot_front, StoreStanding}
 use Rattle.mm_store.specs.declared.fault.StoreFault.{StoreFault}
-use Rattle.mm_recovery.specs.HostStanding.{HostStanding, host_standing}
-use Rattle.mm_recovery.specs.Resumption.{HostGoesAfterFinding}
+use Rattle.mm_recovery.specs.HostStanding.{HostStanding, host_standing, HostGoesAfterFinding}
 use Rattle.mm_recovery.specs.declared.fault.HostFault.{HostFault}
 use Rattle.mm_recovery.specs.declared.fault.HostFault.TheVariants.{Refused, Store}
 use Rattle.mm_recovery.specs.declared.resuming.Resumed.{Resumed}
 use Rattle.mm_recovery.proofs.Above.{Saw, one_waiting, saw_two}
 use Rattle.mm_host.specs.Continuation.{IsNotBeyond, first_served_call, served_calls_in}
-use Rattle.mm_host.specs.SessionStanding.{SessionStanding, host_of, session_standing}
-use Rattle.mm_host.specs.Sessions.{IsSession, ServedCall, SessionGoesAfterResume}
+use Rattle.mm_host.specs.Sessions.{SessionStanding, host_of, session_standing, IsSession, ServedCall, SessionGoesAfterResume}
 use Rattle.mm_host.specs.declared.fault.SessionFault.{SessionFault}
 use Rattle.mm_host.specs.declared.fault.SessionFault.TheVariants.{Host, Lines}
-use Rattle.mm_life.specs.Deeds.{LifeCall}
+use Rattle.mm_life.specs.Deeds.{LifeCall, found_record}
 use Rattle.mm_life.specs.HonestLife.{AreNoChance, BeginsOver, IsOverOneStore, WaitsInSlots, reached_position, store_behind}
 use Rattle.mm_life.specs.Laws.{OffersSlots, SessionsOfferSlots}
 use Rattle.mm_life.specs.LifeWrites.{fault_stop, hands_in, host_stop, part_hand, part_stop, session_stop, stops_in}
-use Rattle.mm_life.specs.OneList.{life_replies, told_replies}
+use Rattle.mm_life.specs.Stages.{life_replies, told_replies, Holds, LifePart, life_calls, session_on}
 use Rattle.mm_life.specs.Premises.{AreUntagged, IsFirstUntagged, bytes_unless_idle, closing_messages, others_values, register_messages}
 use Rattle.mm_life.specs.Premises.{shown_messages, snapshots_of}
-use Rattle.mm_life.specs.SessionCalls.{found_record}
-use Rattle.mm_life.specs.Stages.{Holds, LifePart, life_calls, session_on}
-use Rattle.mm_moments.specs.KilledSessions.{SessionStopsAnywhere}
+use Rattle.mm_moments.specs.MortalLives.{SessionStopsAnywhere, Dies, KilledOfferSlots, IsMortalLife, IsPartFor, LifeEnds, Lives}
+use Rattle.mm_moments.specs.MortalLives.{MortalLivesEnd, MortalPart, MortalPartLeads, MortalStage, PartEnds, ended_life, ended_stages}
+use Rattle.mm_moments.specs.MortalLives.{mortal_calls, mortal_part_calls, mortal_replies}
 use Rattle.mm_moments.specs.MortalLaws.{AreMortalNoChance, AreMortalUntagged, IsMortalOverOneStore, MortalBeginsOver, mortal_closing_messages}
 use Rattle.mm_moments.specs.MortalLaws.{mortal_hand, mortal_hands, mortal_others, mortal_register_messages, mortal_stop, mortal_stops, mortal_store_behind}
-use Rattle.mm_moments.specs.MortalLives.{Dies, KilledOfferSlots, IsMortalLife, IsPartFor, LifeEnds, Lives, MortalLivesEnd, MortalPart, MortalPartLeads}
-use Rattle.mm_moments.specs.MortalLives.{MortalStage, PartEnds, ended_life, ended_stages, mortal_calls, mortal_part_calls, mortal_replies}
 use Rattle.std.specs.Option.{option_map_or}
-use Rattle.mm_call.specs.ShownItems.{foreign_items}
+use Rattle.mm_call.specs.CallPremises.{foreign_items}
 
 -- what a session found is what its slots show
 module _ {variant : Variant} {meaning : Meaning} {old new : SessionStanding} {result : Result Unit SessionFault}

@@ -4,9 +4,8 @@ use Rattle.std.specs.List.{AllByRecursion}
 use Rattle.std.proofs.Common.{◌≡◌, ◌≢◌, ◌∙◌, ◌+◌, ◌++◌, ℕ, List, [], ◌∷◌, Option, None, Some, Result, Err, length, map, refl, subst, sym, ap, inl, inr}
 use Rattle.std.proofs.Common.{append_assoc, arith}
 use Rattle.std.proofs.lemmas.List.Elements.{All-nil}
-use Rattle.mm_base.specs.Input.{joined_lines, lines_of}
+use Rattle.mm_base.specs.Input.{joined_lines, lines_of, IsLineFront}
 use Rattle.mm_base.specs.InputLaws.{lines_of-line}
-use Rattle.mm_base.specs.Lines.{IsLineFront}
 use Rattle.mm_base.specs.declared.replay_fault.ReplayFault.TheVariants as replay
 use Rattle.mm_bytes.specs.Limits.{longest_request}
 use Rattle.mm_digest.specs.declared.variant.Variant.{Variant}
@@ -18,17 +17,15 @@ use Rattle.mm_recovery.specs.HostStanding.{HostStanding}
 use Rattle.mm_recovery.specs.declared.fault.HostFault.{HostFault}
 use Rattle.mm_recovery.specs.declared.fault.HostFault.TheVariants.{Store}
 use Rattle.mm_host.specs.Continuation.{first_served_call}
-use Rattle.mm_host.specs.SessionStanding.{SessionStanding, host_of}
-use Rattle.mm_host.specs.Sessions.{BytesBeginWith, IsSession, ServedCall, ServesAllLines, SessionGoesAfterResume, SessionGoesOn, SessionPlace, TurnGoes}
-use Rattle.mm_host.specs.Sessions.{reply_text, served_lines}
+use Rattle.mm_host.specs.Sessions.{SessionStanding, host_of, BytesBeginWith, IsSession, ServedCall, ServesAllLines, SessionGoesAfterResume}
+use Rattle.mm_host.specs.Sessions.{SessionGoesOn, SessionPlace, TurnGoes, reply_text, served_lines}
 use Rattle.mm_host.specs.declared.fault.SessionFault.{SessionFault}
 use Rattle.mm_host.specs.declared.fault.SessionFault.TheVariants.{Host, Lines}
-use Rattle.mm_life.specs.Deeds.{LifeCall}
-use Rattle.mm_life.specs.SessionCalls.{first_bytes, first_calls, found_host, found_record, last_calls, told_calls}
-use Rattle.mm_moments.specs.KilledSessions.{IsWriteOfSlot, SessionStops, SessionStopsAnywhere}
+use Rattle.mm_life.specs.Deeds.{LifeCall, first_bytes, first_calls, found_host, found_record, last_calls, told_calls}
+use Rattle.mm_moments.specs.MortalLives.{IsWriteOfSlot, SessionStops, SessionStopsAnywhere}
 use Rattle.mm_moments.specs.Moments.{HostMoment, Moment, MomentLeaves, behind, first_moments, going_moments, in_hand, lines_moments}
 use Rattle.mm_moments.specs.Moments.{moments, telling_moments, waiting_request}
-use Rattle.mm_moments.proofs.Each.{each_map, each_so}
+use Rattle.mm_moments.proofs.Counting.{each_map, each_so}
 use Rattle.mm_moments.proofs.HostStops.{StopsEarly, first_stops}
 use Rattle.mm_moments.proofs.LineStops.{LineEnd, LinesStop, LinesStopAt, cuts, fails, lines_stop, rests, some_text}
 

@@ -1,20 +1,23 @@
--- The moments of a program: where its devices stand, and which call of a device it makes next.
-use Rattle.std.specs.Prelude.{◌≡◌, ◌+◌, ◌%◌, ℕ, List, [], ◌∷◌, ◌++◌, map, Option, None, Some, Result, Ok, Err}
+-- The moments of a program: where its devices stand, and which call of a device it makes next. With
+-- it: the moments of a call are all of its steps, one behind another, from where it began to where
+-- it ended.
 use Rattle.std.specs.Option.{option_map}
+use Rattle.std.specs.Prelude.{◌≡◌, ◌+◌, ◌%◌, ℕ, List, [], ◌∷◌, ◌++◌, map, Option, None, Some, Result, Ok, Err, length}
 use Rattle.std.proofs.Common.{inl, inr}
-use Rattle.mm_killed.specs.DeviceCalls.{DeviceCall, Cycles, Reads, Sends, Steps, Writes}
-use Rattle.mm_moments.specs.Below.{Variant, Meaning, Standing, Act, ReadCell, ReadRegister, StepGoes, PowerCycles, Off}
-use Rattle.mm_moments.specs.Below.{OpMeaning, OpReads, Sight, Halt, OpFinding, acts_for, answer_in}
-use Rattle.mm_moments.specs.Below.{Answer, BatchAnswer, Refusal, Device, AskResult, AreStepsToEnd, EndsByFinding, goes_on, breaks_off}
-use Rattle.mm_moments.specs.Below.{ask_call, StoreStanding, StoreFault, Failed, WritesSlot, PendingRecord, pending_spelling}
-use Rattle.mm_moments.specs.Below.{HostStanding, host_standing, IsCall, AsksAndKeepsAnswer, AsksNextRequest, HostGoesAfterFinding}
-use Rattle.mm_moments.specs.Below.{HostGoesAfterOffer, HostGoesAfterRecord, HostResumes, offer_slot, position_at, record_for}
-use Rattle.mm_moments.specs.Below.{HostFault, Resumed, Answered, IsFrontOf, IsSession, ServedCall, ServesAllLines, ServesCalls}
-use Rattle.mm_moments.specs.Below.{SessionFault, SessionGoesAfterResume, SessionPlace, SessionStanding, first_served_call}
-use Rattle.mm_moments.specs.Below.{replies_to, reply_text, LifeCall, call_of, first_calls, found_host, found_record, line_calls}
 use Rattle.mm_base.specs.declared.replay_fault.ReplayFault.TheVariants.{WriteFault}
-use Rattle.mm_host.specs.declared.fault.SessionFault.TheVariants.{Host, Lines}
+use Rattle.mm_platform.specs.declared.fault.StepFault.{StepFault}
 use Rattle.mm_machine.specs.declared.operation.Sight.TheVariants as sight
+use Rattle.mm_killed.specs.DeviceCalls.{DeviceCall, Cycles, Reads, Sends, Steps, Writes}
+use Rattle.mm_host.specs.declared.fault.SessionFault.TheVariants.{Host, Lines}
+use Rattle.mm_moments.specs.Below.{Variant, Meaning, Standing, Act, ReadCell, ReadRegister, StepGoes, PowerCycles, Off, OpMeaning, OpReads}
+use Rattle.mm_moments.specs.Below.{Sight, Halt, OpFinding, acts_for, answer_in, Answer, BatchAnswer, Refusal, Device, AskResult}
+use Rattle.mm_moments.specs.Below.{AreStepsToEnd, EndsByFinding, goes_on, breaks_off, ask_call, StoreStanding, StoreFault, Failed}
+use Rattle.mm_moments.specs.Below.{WritesSlot, PendingRecord, pending_spelling, HostStanding, host_standing, IsCall, AsksAndKeepsAnswer}
+use Rattle.mm_moments.specs.Below.{AsksNextRequest, HostGoesAfterFinding, HostGoesAfterOffer, HostGoesAfterRecord, HostResumes, offer_slot}
+use Rattle.mm_moments.specs.Below.{position_at, record_for, HostFault, Resumed, Answered, IsFrontOf, IsSession, ServedCall, ServesAllLines}
+use Rattle.mm_moments.specs.Below.{ServesCalls, SessionFault, SessionGoesAfterResume, SessionPlace, SessionStanding, first_served_call}
+use Rattle.mm_moments.specs.Below.{replies_to, reply_text, LifeCall, call_of, first_calls, found_host, found_record, line_calls}
+use Rattle.mm_moments.specs.Below.{count_after_more}
 
 -- A call for a request, step by step.
 
@@ -264,3 +267,39 @@ MomentLeaves (Some (Writes slot bytes)) at new sent =
     × WritesSlot slot bytes at.kept new.kept (Err Failed)
 MomentLeaves (Some (Sends piece)) at new sent = (new ≡ at) × IsFrontOf sent piece
 MomentLeaves _ at new sent = (new ≡ at) × (sent ≡ [])
+
+-- The moments of a call are all of its steps, one behind another, from where it began to where it
+-- ended.
+
+-- but for room, all is as before
+abbrev pub IsSameBesideRoom : Standing → Standing → Type 0
+IsSameBesideRoom old new = new ≡ record old { spare = new.spare }
+
+-- A step is made from where it stands, and ends so; and behind it this holds.
+pub record StepIsMade (old : Standing) (m : StepMoment) (fault : Option StepFault)
+    (rest : Standing → Type 0) : Type 0 where
+  pub begins : IsSameBesideRoom old m.at
+  pub after : Standing
+  pub goes : StepGoes m.act m.at after fault
+  pub later : rest after
+
+-- Steps are made one behind another, each without a fault, but for the last.
+abbrev pub AreMadeInTurn : Standing → List StepMoment → Standing → Type 0
+AreMadeInTurn old [] new = IsSameBesideRoom old new
+AreMadeInTurn old (m ∷ []) new =
+    (fault : Option StepFault) × StepIsMade old m fault (λ after. IsSameBesideRoom after new)
+AreMadeInTurn old (m ∷ next ∷ moments) new =
+    StepIsMade old m None (λ after. AreMadeInTurn after (next ∷ moments) new)
+
+-- So are the moments of each call, as many as the platform counted.
+pub record MomentsAreSteps {variant : Variant} {meaning : Meaning} {old new : Standing}
+    {offer request : List ℕ} {result : Result Answer Refusal}
+    (call : IsCall variant meaning old new offer request result) : Type 0 where
+  pub made : AreMadeInTurn old (call_moments call) new
+  pub counted : new.steps ≡ count_after_more (length (call_moments call)) old.steps
+
+abbrev pub AllMomentsAreCounted : Type 0
+AllMomentsAreCounted =
+    (variant : Variant) (meaning : Meaning) (old new : Standing) (offer request : List ℕ)
+    (result : Result Answer Refusal) (call : IsCall variant meaning old new offer request result)
+    → MomentsAreSteps call

@@ -2,27 +2,24 @@
 -- calls that were made and told by each kill.
 use Rattle.std.specs.Prelude.{◌≡◌, ◌+◌, ◌≤◌, ℕ, true, List, [], ◌∷◌, ◌++◌, length, Option, Some}
 use Rattle.std.specs.Option.{option_map_or}
-use Rattle.mm_listing.specs.Tellings.{AreSaid}
+use Rattle.mm_listing.specs.Listing.{AreSaid}
 use Rattle.mm_modules.specs.Modules.{meaning_of}
 use Rattle.mm_modules.specs.declared.any.AnyModule.{AnyModule}
-use Rattle.mm_schedule.specs.Promises.{ModulePromises}
-use Rattle.mm_schedule.specs.Tellings.{tellings_in}
+use Rattle.mm_schedule.specs.Replies.{ModulePromises, tellings_in}
 use Rattle.mm_digest.specs.declared.variant.Variant.TheVariants.{Basic, Opt}
 use Rattle.mm_model.specs.History.{History, first_history}
-use Rattle.mm_model.specs.Instance.{Instance}
-use Rattle.mm_model.specs.InstanceWords.{basic_instance, opt_instance}
+use Rattle.mm_model.specs.Chains.{Instance, basic_instance, opt_instance}
 use Rattle.mm_model.specs.Messages.{AreNoGuards, IsClear}
 use Rattle.mm_model.specs.Standing.{StandsFor, issued_bytes}
 use Rattle.mm_platform.specs.Standing.{Item}
 use Rattle.mm_recovery.specs.CellWrites.{is_open_after, openings}
 use Rattle.mm_recovery.specs.FirstStart.{first_history_on, first_slots}
 use Rattle.mm_life.specs.HonestLife.{BeginsOver, IsGoneOnWith, store_behind}
-use Rattle.mm_life.specs.IdleParts.{has_open_segment}
+use Rattle.mm_life.specs.Premises.{has_open_segment, IsFirstUntagged, bytes_unless_idle, call_batches, call_messages, closing_messages}
+use Rattle.mm_life.specs.Premises.{shown_messages, snapshots_of}
 use Rattle.mm_life.specs.LifeWrites.{WritesOnceEach, new_replies, new_requests_told, part_hand, part_stop, part_turns, part_turns_in_hand}
-use Rattle.mm_life.specs.OneList.{IsOneWhole, LifeFollows, told_replies}
-use Rattle.mm_life.specs.Premises.{IsFirstUntagged, bytes_unless_idle, call_batches, call_messages, closing_messages, shown_messages}
-use Rattle.mm_life.specs.Premises.{snapshots_of}
-use Rattle.mm_call.specs.ShownItems.{foreign_items}
+use Rattle.mm_life.specs.Stages.{IsOneWhole, LifeFollows, told_replies}
+use Rattle.mm_call.specs.CallPremises.{foreign_items}
 use Rattle.mm_moments.specs.Below.{Variant, IsLawful, Meaning, Standing, StoreStanding}
 use Rattle.mm_moments.specs.MortalLives.{Dies, IsMortalLife, LifeEnds, Lives, MortalLeavesNoChance, MortalPart, MortalPartLeads, MortalStage}
 use Rattle.mm_moments.specs.MortalLives.{ended_life, ended_stages, mortal_calls, mortal_part_calls, mortal_replies}

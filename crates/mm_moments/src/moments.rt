@@ -1,8 +1,8 @@
 //! Laws of what is killed at any moment, each the contract of a function that does nothing.
 
-ghost use Rattle.mm_moments.specs.CountedMoments.{AllMomentsAreCounted};
-ghost use Rattle.mm_moments.specs.KilledCalls.{CallStopsAnywhere, CheckpointStopsAnywhere, KilledBetweenCalls};
-ghost use Rattle.mm_moments.specs.KilledSessions.{MayBeKilledAnywhere, SessionStopsAnywhere};
+ghost use Rattle.mm_moments.specs.Moments.{AllMomentsAreCounted};
+ghost use Rattle.mm_moments.specs.MortalLives.{CallStopsAnywhere, CheckpointStopsAnywhere, KilledBetweenCalls, MayBeKilledAnywhere};
+ghost use Rattle.mm_moments.specs.MortalLives.{SessionStopsAnywhere};
 
 /// A call for a request, or a checkpoint, that is killed at any of its steps is one that a device
 /// broke off. Its moments are all of its steps. And what is killed between two calls of devices is

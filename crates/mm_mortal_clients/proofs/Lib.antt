@@ -1,3 +1,1 @@
 mod Honest
-mod Ending
-mod ServedLaws

@@ -1,4 +1,2 @@
 pub mod Below
 pub mod MortalClient
-pub mod MortalServedOnce
-pub mod Laws

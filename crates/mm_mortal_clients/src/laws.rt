@@ -1,7 +1,7 @@
 //! Laws of a client whose sessions are killed, each the contract of a function that calls what it
 //! needs.
 
-ghost use Rattle.mm_mortal_clients.specs.Laws.{BasicMortalClientsAreServedOnce, OptMortalClientsAreServedOnce};
+ghost use Rattle.mm_mortal_clients.specs.MortalClient.{BasicMortalClientsAreServedOnce, OptMortalClientsAreServedOnce};
 
 use mm_client::{basic_clients_are_served_once, opt_clients_are_served_once};
 use mm_moments::session_stops_anywhere;

@@ -11,34 +11,32 @@ use Rattle.mm_module.specs.Batch.{Batch}
 use Rattle.mm_module.specs.Meaning.{IsLawful, Meaning}
 use Rattle.mm_modules.specs.Modules.{meaning_of}
 use Rattle.mm_model.specs.Messages.{AreNoGuards, IsClear}
-use Rattle.mm_call.specs.ShownItems.{foreign_items}
+use Rattle.mm_call.specs.CallPremises.{foreign_items}
 use Rattle.mm_evidence.specs.Evidence.{HasClash}
-use Rattle.mm_schedule.specs.Promises.{ModulePromises}
+use Rattle.mm_schedule.specs.Replies.{ModulePromises}
 use Rattle.mm_schedule.specs.declared.reply.Reply.{Reply}
 use Rattle.mm_move.specs.declared.link.Link.{Link}
 use Rattle.mm_life.specs.Deeds.{LifeCall}
 use Rattle.mm_life.specs.Premises.{IsUntagged, bytes_unless_idle, call_batches, closing_messages, shown_messages, snapshots_of}
 use Rattle.mm_life.specs.Stages.{LifePart}
 use Rattle.mm_moments.specs.MortalLives.{Dies as KilledPart, MortalLivesEnd}
-use Rattle.mm_worlds.specs.Evidence.{HasWorldBreach, IsWorldBreach, forged_offer, forged_ticket, nonce_twice}
-use Rattle.mm_worlds.specs.Handed.{Handed, IsGenuineUnder, keyed_snapshots, snapshots_under}
-use Rattle.mm_worlds.specs.Laws.{BasicWorldIsOne, OptWorldIsOne, OptWorldIsOneOrEvidence, WorldIsOneOrEvidence, WorldsKeepPromises}
-use Rattle.mm_worlds.specs.OneWorld.{IsOneWorld, world_part_replies, world_replies}
-use Rattle.mm_worlds.specs.OptPremises.{AreRegistersTold, TellsRegister, bytes_if_live, opt_messages_from, opt_messages_in, others_values_in, world_batches}
-use Rattle.mm_worlds.specs.OptPremises.{world_values}
-use Rattle.mm_worlds.specs.Platforms.{instance_of, key_of, role_of}
-use Rattle.mm_worlds.specs.Premises.{AreHonest, IsHonest, asked_messages, calls_at, calls_in, first_handed, first_offers, handed_after, handed_at_end}
-use Rattle.mm_worlds.specs.Premises.{messages_from}
-use Rattle.mm_worlds.specs.Worlds.{IsWorldLife, World, WorldStage}
+use Rattle.mm_worlds.specs.OneWorld.{HasWorldBreach, IsWorldBreach, forged_offer, forged_ticket, nonce_twice, BasicWorldIsOne}
+use Rattle.mm_worlds.specs.OneWorld.{OptWorldIsOne, OptWorldIsOneOrEvidence, WorldIsOneOrEvidence, WorldsKeepPromises, IsOneWorld}
+use Rattle.mm_worlds.specs.OneWorld.{world_part_replies, world_replies, AreRegistersTold, TellsRegister, bytes_if_live, opt_messages_from}
+use Rattle.mm_worlds.specs.OneWorld.{opt_messages_in, others_values_in, world_batches, world_values}
+use Rattle.mm_worlds.specs.Premises.{Handed, IsGenuineUnder, keyed_snapshots, snapshots_under, instance_of, key_of, role_of, AreHonest}
+use Rattle.mm_worlds.specs.Premises.{IsHonest, asked_messages, calls_at, calls_in, first_handed, first_offers, handed_after, handed_at_end}
+use Rattle.mm_worlds.specs.Premises.{messages_from, IsWorldLife, World, WorldStage}
 use Rattle.mm_mortal_worlds.specs.MortalEvidence.{HasMortalBreach, IsMortalBreach}
-use Rattle.mm_mortal_worlds.specs.MortalPremises.{AreMortalHonest, AreMortalRegistersTold, IsMortalHonest, MortalTellsRegister, mortal_calls_in}
-use Rattle.mm_mortal_worlds.specs.MortalPremises.{mortal_handed_after, mortal_handed_at_end, mortal_messages_from, mortal_opt_messages_from}
-use Rattle.mm_mortal_worlds.specs.MortalPremises.{mortal_opt_messages_in, mortal_values_in, mortal_world_batches, mortal_world_values}
+use Rattle.mm_mortal_worlds.specs.MortalWorlds.{AreMortalHonest, AreMortalRegistersTold, IsMortalHonest, MortalTellsRegister}
+use Rattle.mm_mortal_worlds.specs.MortalWorlds.{mortal_calls_in, mortal_handed_after, mortal_handed_at_end, mortal_messages_from}
+use Rattle.mm_mortal_worlds.specs.MortalWorlds.{mortal_opt_messages_from, mortal_opt_messages_in, mortal_values_in, mortal_world_batches}
+use Rattle.mm_mortal_worlds.specs.MortalWorlds.{mortal_world_values, Dies, Happens, IsMortalWorldLife, MortalWorldPart}
+use Rattle.mm_mortal_worlds.specs.MortalWorlds.{MortalWorldPartLeads, MortalWorldStage, MortalWorldsEnd, WorldEnds, WorldPartEnds}
+use Rattle.mm_mortal_worlds.specs.MortalWorlds.{ended_leads, ended_part, ended_world_life, ended_world_stages, mortal_world_after}
+use Rattle.mm_mortal_worlds.specs.MortalWorlds.{mortal_world_part_replies, mortal_world_replies}
 use Rattle.mm_mortal_worlds.specs.MortalWorldLaws.{BasicMortalWorldIsOne, IsMortalWorldOne, MortalWorldIsOneOrEvidence, MortalWorldsKeepPromises}
 use Rattle.mm_mortal_worlds.specs.MortalWorldLaws.{OptMortalWorldIsOne, OptMortalWorldIsOneOrEvidence}
-use Rattle.mm_mortal_worlds.specs.MortalWorlds.{Dies, Happens, IsMortalWorldLife, MortalWorldPart, MortalWorldPartLeads, MortalWorldStage}
-use Rattle.mm_mortal_worlds.specs.MortalWorlds.{MortalWorldsEnd, WorldEnds, WorldPartEnds, ended_leads, ended_part, ended_world_life}
-use Rattle.mm_mortal_worlds.specs.MortalWorlds.{ended_world_stages, mortal_world_after, mortal_world_part_replies, mortal_world_replies}
 
 module _ (variant : Variant) (meaning : Meaning) (link : Link) where
   part_ends : MortalLivesEnd → IsLawful meaning → (old : Standing) (part : MortalWorldPart) (new : Standing)

@@ -4,10 +4,9 @@ use Rattle.std.specs.Prelude.{◌⊎◌, ℕ, List, [], ◌∷◌}
 use Rattle.std.specs.List.{Contains}
 use Rattle.mm_mortal_worlds.specs.Below.{Variant, Basic, Opt, Content, Standing, Meaning, IsRight, HasClash, Link, killed_calls, Handed}
 use Rattle.mm_mortal_worlds.specs.Below.{snapshots_under, IsWorldBreach, instance_of, key_of, role_of, calls_at, first_offers, World}
-use Rattle.mm_mortal_worlds.specs.MortalPremises.{mortal_handed_after, mortal_opt_world_messages, mortal_world_batches}
-use Rattle.mm_mortal_worlds.specs.MortalPremises.{mortal_world_messages, mortal_world_values}
-use Rattle.mm_mortal_worlds.specs.MortalWorlds.{Dies, Happens, IsMortalWorldLife, MortalWorldPart, MortalWorldPartLeads}
-use Rattle.mm_mortal_worlds.specs.MortalWorlds.{MortalWorldStage, mortal_world_after}
+use Rattle.mm_mortal_worlds.specs.MortalWorlds.{mortal_handed_after, mortal_opt_world_messages, mortal_world_batches, mortal_world_messages}
+use Rattle.mm_mortal_worlds.specs.MortalWorlds.{mortal_world_values, Dies, Happens, IsMortalWorldLife, MortalWorldPart}
+use Rattle.mm_mortal_worlds.specs.MortalWorlds.{MortalWorldPartLeads, MortalWorldStage, mortal_world_after}
 
 -- one of these offers is right under the platform's key, and wasn't handed out under it
 pub record HasForgedOffer (variant : Variant) (meaning : Meaning) (link : Link) (handed : Handed)

@@ -6,11 +6,9 @@ use Rattle.mm_mortal_worlds.specs.Below.{Variant, Basic, Opt, IsLawful, Meaning,
 use Rattle.mm_mortal_worlds.specs.Below.{ModulePromises, Link, Handed, IsGenuineUnder, IsOneWorld, WorldFollows, IsOptWorldAtStart}
 use Rattle.mm_mortal_worlds.specs.Below.{IsWorldAtStart, first_handed, World}
 use Rattle.mm_mortal_worlds.specs.MortalEvidence.{HasMortalWorldEvidence, HasOptMortalWorldEvidence}
-use Rattle.mm_mortal_worlds.specs.MortalPremises.{AreMortalHonest, AreMortalRegistersTold, mortal_handed_at_end}
-use Rattle.mm_mortal_worlds.specs.MortalPremises.{mortal_opt_world_messages, mortal_world_batches, mortal_world_messages}
-use Rattle.mm_mortal_worlds.specs.MortalPremises.{mortal_world_values}
-use Rattle.mm_mortal_worlds.specs.MortalWorlds.{IsMortalWorldLife, MortalWorldStage, WorldEnds, ended_world_life, ended_world_stages}
-use Rattle.mm_mortal_worlds.specs.MortalWorlds.{mortal_world_replies}
+use Rattle.mm_mortal_worlds.specs.MortalWorlds.{AreMortalHonest, AreMortalRegistersTold, mortal_handed_at_end, mortal_opt_world_messages}
+use Rattle.mm_mortal_worlds.specs.MortalWorlds.{mortal_world_batches, mortal_world_messages, mortal_world_values, IsMortalWorldLife}
+use Rattle.mm_mortal_worlds.specs.MortalWorlds.{MortalWorldStage, WorldEnds, ended_world_life, ended_world_stages, mortal_world_replies}
 
 -- The world in which the killed programs ended is one; and all that was handed out, by killed
 -- programs too, is genuine for its history.

@@ -19,11 +19,10 @@ pub use Rattle.mm_seal.specs.declared.snapshot.PartsFault.{PartsFault}
 pub use Rattle.mm_seal.specs.declared.snapshot.PartsFault.TheVariants.{Form, Kind}
 pub use Rattle.mm_move.specs.Cells.{CellsAreRead, is_fit_for_variant, fits_variant, IsMoved, IsRetired, IsWaiting, live_cell_in}
 pub use Rattle.mm_move.specs.Cells.{moved_cell_by, moved_cell_in, moved_cell_of, moved_spelling, retired_cell_in, retired_spelling}
-pub use Rattle.mm_move.specs.Cells.{SpellsMoved, waiting_cell_in}
-pub use Rattle.mm_move.specs.Fields.{digest_at, number_at, part, variant_in}
+pub use Rattle.mm_move.specs.Cells.{SpellsMoved, waiting_cell_in, digest_at, number_at, part, variant_in, move_fault_in, move_fault_of}
+pub use Rattle.mm_move.specs.Cells.{IsOrNoMemory}
 pub use Rattle.mm_move.specs.Orders.{acceptance_in, acceptance_by, acceptance_again_by, is_barred, is_other, retirement_by, offer_by}
 pub use Rattle.mm_move.specs.Orders.{retired_cell_from, retirement_in, right_offer, right_ticket, is_place_at, ticket_by}
-pub use Rattle.mm_move.specs.Refusals.{move_fault_in, move_fault_of, IsOrNoMemory}
 pub use Rattle.mm_move.specs.Tickets.{is_for, is_spelled_by, IsAtAnchor, IsTagged, IsTicket, place_at, SpellsTicket, summary_in}
 pub use Rattle.mm_move.specs.Tickets.{tagged_ticket_in, TaggedTicket, ticket_content, ticket_front, ticket_of, signed_bytes}
 pub use Rattle.mm_move.specs.Tickets.{ticket_spelling, ticket_tag, TicketContent, TicketsAreRead}

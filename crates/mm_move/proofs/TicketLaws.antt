@@ -8,18 +8,16 @@ use Rattle.mm_move.proofs.Below.{IsTagged, ticket_spelling, is_for, is_spelled_b
 use Rattle.std.specs.Int.{w64, from_be_bytes, to_be_bytes}
 use Rattle.std.proofs.lemmas.List.Folds.{drop_split}
 use Rattle.std.proofs.lemmas.Nat.{from_be_bytes-to_be_bytes_8}
-use Rattle.mm_bytes.specs.Fields.{eight_bytes, four_bytes}
-use Rattle.mm_bytes.specs.FieldLaws.{length-eight_bytes, length-four_bytes}
+use Rattle.mm_bytes.specs.Limits.{eight_bytes, four_bytes}
+use Rattle.mm_bytes.specs.DecimalLaws.{length-eight_bytes, length-four_bytes}
 use Rattle.mm_digest.specs.declared.variant.Variant.TheVariants as variants
 use Rattle.mm_digest.specs.Messages.{zero_bytes}
 use Rattle.mm_seal.specs.declared.snapshot.Place.{Place}
 use Rattle.mm_seal.specs.declared.snapshot.Place.TheVariants.{Basic, Opt}
-use Rattle.mm_seal.specs.PartsWords.{is_bounded, is_same_variant}
-use Rattle.mm_move.specs.Tickets.{ticket_front, tagged_ticket_in, ticket_by, ticket_of}
-use Rattle.mm_move.specs.Readings.{IsBounded}
-use Rattle.mm_move.proofs.Parts.{take_front, drop_front, drop_past, length-part, both_true, and_parts, is_false, le_is, le_tells, eq_is}
-use Rattle.mm_move.proofs.Parts.{eq_tells, bytes_tell, bytes_are}
-use Rattle.mm_move.proofs.CellLaws.{variant_back}
+use Rattle.mm_seal.specs.Parts.{is_bounded, is_same_variant}
+use Rattle.mm_move.specs.Tickets.{ticket_front, tagged_ticket_in, ticket_by, ticket_of, IsBounded}
+use Rattle.mm_move.proofs.CellLaws.{take_front, drop_front, drop_past, length-part, both_true, and_parts, is_false, le_is, le_tells, eq_is}
+use Rattle.mm_move.proofs.CellLaws.{eq_tells, bytes_tell, bytes_are, variant_back}
 
 pub length-zero_bytes : length zero_bytes ≡ 32
 unfolding zero_bytes

@@ -15,8 +15,7 @@ use Rattle.mm_seal.specs.declared.snapshot.Place.TheVariants.{Basic, Opt}
 use Rattle.mm_seal.specs.declared.snapshot.PartsFault.{PartsFault}
 use Rattle.mm_seal.specs.declared.snapshot.PartsFault.TheVariants.{Form, Kind}
 use Rattle.mm_seal.specs.Cell.{cell_spelling}
-use Rattle.mm_seal.specs.Parts.{parts_of}
-use Rattle.mm_seal.specs.PartsWords.{is_same_variant}
+use Rattle.mm_seal.specs.Parts.{parts_of, is_same_variant}
 use Rattle.mm_seal.specs.Snapshot.{Content, Snapshot, tag_of, sealed_snapshot_of}
 use Rattle.mm_model.specs.declared.refusal.Refusal.TheVariants as core
 use Rattle.mm_model.specs.Verdicts.{forms_of, is_fresh_form}
@@ -31,8 +30,7 @@ use Rattle.mm_move.specs.declared.link.Link.{Link}
 use Rattle.mm_move.specs.declared.ready.ReadyMove.{ReadyMove}
 use Rattle.mm_move.specs.declared.refusal.MoveRefusal.{MoveRefusal}
 use Rattle.mm_move.specs.declared.refusal.MoveRefusal.TheVariants.{Core, Already, Open, Gone, Nonce, Barrier}
-use Rattle.mm_move.specs.Cells.{waiting_spelling, retired_spelling}
-use Rattle.mm_move.specs.Refusals.{refusal_if}
+use Rattle.mm_move.specs.Cells.{waiting_spelling, retired_spelling, refusal_if}
 use Rattle.mm_move.specs.Tickets.{summary_in, place_at, TicketContent, TaggedTicket, ticket_tag, sealed_ticket, ticket_of}
 
 -- the barrier of a module that moves over the link: Basic has none

@@ -1,23 +1,23 @@
--- The bytes of a ticket, and its tag.
+-- The bytes of a ticket, and its tag. With it: what is read, as plain data, and within which
+-- bounds.
 use Rattle.std.specs.Prelude.{◌≡◌, ◌↔◌, ℕ, ◌-◌, ◌&&◌, Bool, List, [], ◌∷◌, ◌++◌, length, drop, slice_index, slice_range, nat_le, Result, Ok}
-use Rattle.std.specs.Prelude.{Err, if◌then◌else◌}
+use Rattle.std.specs.Prelude.{Err, if◌then◌else◌, ◌≤◌}
 use Rattle.std.specs.Str.{bytes_eq}
-use Rattle.mm_bytes.specs.Fields.{eight_bytes, four_bytes}
+use Rattle.mm_bytes.specs.Limits.{eight_bytes, four_bytes, last_position, limit_of}
+use Rattle.mm_digest.specs.Messages.{variant_byte, zero_bytes, hmac_of}
 use Rattle.mm_digest.specs.declared.digest.Digest.{Digest}
 use Rattle.mm_digest.specs.declared.variant.Variant.{Variant}
 use Rattle.mm_digest.specs.declared.variant.Variant.TheVariants as variants
-use Rattle.mm_digest.specs.Messages.{variant_byte, zero_bytes}
-use Rattle.mm_digest.specs.Hmac.{hmac_of}
-use Rattle.mm_seal.specs.declared.snapshot.Place.{Place}
-use Rattle.mm_seal.specs.declared.snapshot.Place.TheVariants.{Basic, Opt}
+use Rattle.mm_seal.specs.Parts.{content_of, is_of_kind, is_bounded, is_same_variant}
+use Rattle.mm_seal.specs.Snapshot.{Content, Snapshot, IsContent, variant_of}
+use Rattle.mm_seal.specs.declared.snapshot.Body.{Body}
 use Rattle.mm_seal.specs.declared.snapshot.PartsFault.{PartsFault}
 use Rattle.mm_seal.specs.declared.snapshot.PartsFault.TheVariants.{Form, Kind}
-use Rattle.mm_seal.specs.Body.{content_of}
-use Rattle.mm_seal.specs.Parts.{is_of_kind}
-use Rattle.mm_seal.specs.PartsWords.{is_bounded, is_same_variant}
-use Rattle.mm_seal.specs.Snapshot.{Content, Snapshot, IsContent, variant_of}
+use Rattle.mm_seal.specs.declared.snapshot.Place.{Place}
+use Rattle.mm_seal.specs.declared.snapshot.Place.TheVariants.{Basic, Opt}
+use Rattle.mm_move.specs.Cells.{part, digest_at, number_at, variant_in}
+use Rattle.mm_move.specs.declared.refusal.MoveRefusal.{MoveRefusal}
 use Rattle.mm_move.specs.declared.ticket.Ticket.{Ticket}
-use Rattle.mm_move.specs.Fields.{part, digest_at, number_at, variant_in}
 
 -- the summary, or the anchor
 abbrev pub summary_in : Place → Digest
@@ -126,3 +126,19 @@ pub record SpellsTicket (variant : Variant) (id : ℕ) (bytes : List ℕ)
 abbrev pub TicketsAreRead : Type 0
 TicketsAreRead = (variant : Variant) (id : ℕ) (bytes : List ℕ) (tagged : TaggedTicket) →
     (ticket_of variant id bytes ≡ Ok tagged) ↔ SpellsTicket variant id bytes tagged
+
+-- What is read, as plain data, and within which bounds.
+
+abbrev pub offer_reading : Result Body MoveRefusal → Result Content MoveRefusal
+offer_reading (Ok body) = Ok (content_of body)
+offer_reading (Err why) = Err why
+
+abbrev pub ticket_reading : Result Ticket MoveRefusal → Result TicketContent MoveRefusal
+ticket_reading (Ok ticket) = Ok (ticket_content ticket)
+ticket_reading (Err why) = Err why
+
+-- it is of this variant, and within its bounds
+pub record IsBounded (variant : Variant) (content : Content) : Type 0 where
+  pub variant_is : variant_of content.place ≡ variant
+  pub position : content.position ≤ last_position
+  pub state : length content.state ≤ limit_of content.id

@@ -2,14 +2,11 @@
 
 ghost use Rattle.std.specs.Prelude.{◌≡◌, ◌≤◌, IfOk, Ok, false, length};
 ghost use Rattle.mm_bytes.specs.Limits.{last_position, limit_of};
-ghost use Rattle.mm_seal.specs.Body.{content_of};
+ghost use Rattle.mm_seal.specs.Parts.{content_of};
 ghost use Rattle.mm_seal.specs.Cell.{FitsVariant};
-ghost use Rattle.mm_move.specs.Cells.{FitsMoved, moved_cell_of};
-ghost use Rattle.mm_move.specs.Moves.{MovePromise, AreMoveSteps};
+ghost use Rattle.mm_move.specs.Cells.{FitsMoved, moved_cell_of, MovePromise, AreMoveSteps, IsOrNoMemory};
 ghost use Rattle.mm_move.specs.Orders.{acceptance_of, right_ticket, acceptance_by, acceptance_again_by, acceptance_in};
-ghost use Rattle.mm_move.specs.Readings.{ticket_reading, IsBounded};
-ghost use Rattle.mm_move.specs.Refusals.{IsOrNoMemory};
-ghost use Rattle.mm_move.specs.Tickets.{ticket_content};
+ghost use Rattle.mm_move.specs.Tickets.{ticket_reading, IsBounded, ticket_content};
 ghost use Rattle.mm_move.specs.declared.cell.MovedCell.TheVariants.{Live, Waiting as Waits};
 
 use crate::cell::{MovedCell, WaitingCell, read_moved};

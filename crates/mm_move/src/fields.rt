@@ -1,7 +1,7 @@
 //! Fields at fixed offsets.
 
 ghost use Rattle.std.specs.Prelude.{◌≡◌, ◌+◌, ◌≤◌, length};
-ghost use Rattle.mm_move.specs.Fields.{part, variant_in, number_at};
+ghost use Rattle.mm_move.specs.Cells.{part, variant_in, number_at};
 
 use mm_digest::Variant;
 

@@ -2,8 +2,7 @@
 
 ghost use Rattle.std.specs.Prelude.{◌≡◌, ◌≢◌, Err, false};
 ghost use Rattle.mm_seal.specs.Cell.{FitsVariant};
-ghost use Rattle.mm_move.specs.Cells.{moved_cell_of};
-ghost use Rattle.mm_move.specs.Moves.{MovePromise, AreMoveSteps};
+ghost use Rattle.mm_move.specs.Cells.{moved_cell_of, MovePromise, AreMoveSteps};
 ghost use Rattle.mm_move.specs.Orders.{waiting_for, is_same_waiting, invitation_in};
 
 use crate::cell::{MovedCell, WaitingCell, read_moved, waiting_bytes};

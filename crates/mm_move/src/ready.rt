@@ -1,6 +1,6 @@
 //! The device steps of a move.
 
-ghost use Rattle.mm_move.specs.Moves.{MoveGoesOn, MakesMoveStep, ReadsBytes};
+ghost use Rattle.mm_move.specs.Cells.{MoveGoesOn, MakesMoveStep, ReadsBytes};
 
 use crate::refusal::MoveRefusal;
 use mm_bytes::CELL_LENGTH;

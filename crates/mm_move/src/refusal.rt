@@ -29,7 +29,7 @@ pub enum MoveRefusal {
 }
 
 impl MoveRefusal {
-    ghost use Rattle.mm_move.specs.Refusals.{move_code_of};
+    ghost use Rattle.mm_move.specs.Cells.{move_code_of};
 
     /// The refusal's number: 13 to 17, and that of a call's refusal as it is.
     pub fn code(&self) -> u8

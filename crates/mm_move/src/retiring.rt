@@ -5,13 +5,11 @@ ghost use Rattle.std.specs.List.{list_any};
 ghost use Rattle.mm_bytes.specs.Limits.{last_position, limit_of};
 ghost use Rattle.mm_digest.specs.Messages.{zero_bytes};
 ghost use Rattle.mm_model.specs.Verdicts.{forms_of, is_fresh_form};
-ghost use Rattle.mm_seal.specs.Body.{content_of};
+ghost use Rattle.mm_seal.specs.Parts.{content_of};
 ghost use Rattle.mm_seal.specs.Snapshot.{variant_of};
-ghost use Rattle.mm_move.specs.Cells.{moved_cell_of};
-ghost use Rattle.mm_move.specs.Moves.{MovePromise, AreMoveSteps};
+ghost use Rattle.mm_move.specs.Cells.{moved_cell_of, MovePromise, AreMoveSteps, IsOrNoMemory};
 ghost use Rattle.mm_move.specs.Orders.{right_offer, is_place_at, retirement_by, retirement_in};
-ghost use Rattle.mm_move.specs.Readings.{offer_reading, IsBounded};
-ghost use Rattle.mm_move.specs.Refusals.{IsOrNoMemory};
+ghost use Rattle.mm_move.specs.Tickets.{offer_reading, IsBounded};
 ghost use Rattle.mm_move.specs.declared.cell.MovedCell.TheVariants.{Live, Retired as Left};
 
 use crate::cell::{MovedCell, RetiredCell, read_moved, retired_bytes};

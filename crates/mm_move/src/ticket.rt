@@ -1,10 +1,8 @@
 //! Tickets: what a retired platform gives to the one that was invited, sealed under the link's key.
 
 ghost use Rattle.std.specs.Prelude.{◌≡◌, ◌≤◌, ◌++◌, [], IfOk, OnOk, MatchOption, true, false, length};
-ghost use Rattle.mm_bytes.specs.Fields.{eight_bytes, four_bytes};
-ghost use Rattle.mm_bytes.specs.Limits.{last_position, limit_of};
-ghost use Rattle.mm_seal.specs.Body.{content_of};
-ghost use Rattle.mm_seal.specs.PartsWords.{is_bounded};
+ghost use Rattle.mm_bytes.specs.Limits.{eight_bytes, four_bytes, last_position, limit_of};
+ghost use Rattle.mm_seal.specs.Parts.{content_of, is_bounded};
 ghost use Rattle.mm_move.specs.Tickets.{IsAtAnchor, summary_in, place_at, ticket_content, ticket_front, sealed_ticket, tagged_ticket_in, is_for, is_spelled_by, ticket_of};
 
 use crate::fields::{number_at, part, variant_in};

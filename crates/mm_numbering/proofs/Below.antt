@@ -19,14 +19,13 @@ pub use Rattle.std.proofs.lemmas.Slice.Eq.{bytes_eq-Decides}
 pub use Rattle.sha2.specs.Sha256.{sha256}
 pub use Rattle.mm_platform.specs.declared.plan.Meddle.{Meddle}
 pub use Rattle.mm_module.specs.Batch.{Batch}
-pub use Rattle.mm_model.specs.ChainsWords.{own_values}
+pub use Rattle.mm_model.specs.Chains.{own_values}
 pub use Rattle.mm_schedule.specs.Events.{Event, event_of}
 pub use Rattle.mm_schedule.specs.declared.event.Event.{Event as CodeEvent}
-pub use Rattle.mm_outcome.specs.WorldState.{world_barrier}
+pub use Rattle.mm_outcome.specs.OneRun.{world_barrier}
 pub use Rattle.mm_outcome.specs.Premises.{batches_of, event_foreign_values}
 pub use Rattle.mm_outcome.specs.Premises.{asked_batches}
-pub use Rattle.mm_numbering.specs.Guards.{digest_items, events_of, HasAll}
-pub use Rattle.mm_numbering.specs.Listing.{pair_plus_one, first_number_of, number_of_first, is_zero, message_digests, messages_with, lower_pair}
-pub use Rattle.mm_numbering.specs.Listing.{shared_pair_in, shared_pair_with, zero_number_in}
-pub use Rattle.mm_numbering.specs.Lists.{AddsDigest, AddsIfFirst, CountsDigests, ListsMessages, number_at, pair_of}
-pub use Rattle.mm_numbering.specs.Guards.{has_foreign_value, is_secured}
+pub use Rattle.mm_numbering.specs.Listing.{digest_items, events_of, HasAll, pair_plus_one, first_number_of, number_of_first, is_zero}
+pub use Rattle.mm_numbering.specs.Listing.{message_digests, messages_with, lower_pair, shared_pair_in, shared_pair_with, zero_number_in}
+pub use Rattle.mm_numbering.specs.Listing.{AddsDigest, AddsIfFirst, CountsDigests, ListsMessages, number_at, pair_of, has_foreign_value}
+pub use Rattle.mm_numbering.specs.Listing.{is_secured}

@@ -1,5 +1,3 @@
 mod Below
 mod ListingLaws
-mod MessageLaws
-mod TextLaws
 pub mod GuardLaws

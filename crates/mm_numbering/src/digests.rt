@@ -5,8 +5,8 @@ ghost use Rattle.std.specs.BTreeMap.{get};
 ghost use Rattle.std.specs.Cmp.Lexicographic.{slice_cmp};
 ghost use Rattle.std.specs.Option.{unwrap_or};
 ghost use Rattle.std.specs.Ordering.{nat_cmp, is_eq};
-ghost use Rattle.mm_numbering.specs.Listing.{first_number_of, is_zero, lower_pair};
-ghost use Rattle.mm_numbering.specs.Lists.{pair_of, number_at, AddsDigest, AddsIfFirst, CountsDigests};
+ghost use Rattle.mm_numbering.specs.Listing.{first_number_of, is_zero, lower_pair, pair_of, number_at, AddsDigest, AddsIfFirst};
+ghost use Rattle.mm_numbering.specs.Listing.{CountsDigests};
 
 use mm_bytes::Memory;
 use mm_digest::{Digest, zero};

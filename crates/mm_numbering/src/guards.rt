@@ -9,15 +9,13 @@ ghost use Rattle.std.specs.Str.{bytes_eq};
 ghost use Rattle.mm_bytes.specs.Limits.{most_events};
 ghost use Rattle.mm_module.specs.Batch.{normal_batch};
 ghost use Rattle.mm_module.specs.Batches.{batch_of};
-ghost use Rattle.mm_model.specs.Chains.{guard};
-ghost use Rattle.mm_model.specs.ChainsWords.{own_values};
-ghost use Rattle.mm_model.specs.Long.{is_long};
+ghost use Rattle.mm_model.specs.Chains.{guard, own_values};
+ghost use Rattle.mm_model.specs.Moves.{is_long};
 ghost use Rattle.mm_schedule.specs.Events.{event_of, meddles_of};
-ghost use Rattle.mm_outcome.specs.WorldState.{world_barrier};
+ghost use Rattle.mm_outcome.specs.OneRun.{world_barrier};
 ghost use Rattle.mm_outcome.specs.Premises.{batches_of, event_foreign_values, asked_batches};
-ghost use Rattle.mm_numbering.specs.Listing.{number_of_first};
-ghost use Rattle.mm_numbering.specs.Guards.{has_foreign_value, is_secured};
-ghost use Rattle.mm_numbering.specs.Guards.{events_of, batches_unless_long, digest_items, HasAll, secured_event_by};
+ghost use Rattle.mm_numbering.specs.Listing.{number_of_first, has_foreign_value, is_secured, events_of, batches_unless_long, digest_items};
+ghost use Rattle.mm_numbering.specs.Listing.{HasAll, secured_event_by};
 
 use mm_bytes::Memory;
 use mm_digest::{Digest, Variant};
@@ -29,7 +27,7 @@ use std::alloc::Global;
 use std::collections::BTreeSet;
 
 /// The barrier of each world: the bytes 20 to 3f.
-#[tactic(auto, unfolding(mm_outcome::specs::WorldState::rising_bytes_from))]
+#[tactic(auto, unfolding(mm_outcome::specs::OneRun::rising_bytes_from))]
 fn barrier() -> [u8; 32]
     ensures { result ≡ world_barrier }
 {

@@ -4,8 +4,7 @@ ghost use Rattle.std.specs.Prelude.{◌≡◌, ◌+◌, ◌-◌, ◌<◌, ◌≤
 ghost use Rattle.std.specs.List.{fold, list_any};
 ghost use Rattle.std.specs.Str.{bytes_eq};
 ghost use Rattle.sha2.specs.Sha256.{sha256};
-ghost use Rattle.mm_numbering.specs.Listing.{messages_with};
-ghost use Rattle.mm_numbering.specs.Lists.{number_at, ListsMessages};
+ghost use Rattle.mm_numbering.specs.Listing.{messages_with, number_at, ListsMessages};
 
 use crate::digests::DigestIndex;
 use crate::texts::TextList;

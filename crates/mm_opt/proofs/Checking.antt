@@ -12,17 +12,17 @@ use Rattle.mm_opt.proofs.Below.{trail_last, told_by, begins_at, course_by, fate_
 use Rattle.mm_opt.proofs.Below.{CheckpointRefusal, Segment, Open, Shut, closing_fault_of, closing_fault_in, segment_by, segment_in}
 use Rattle.mm_opt.proofs.Below.{closed_cell, FindsSegment, LooksAtSegment, WeighsRegister, ClosesSegment, CheckpointGoesBy}
 use Rattle.mm_opt.proofs.Below.{IsCheckpointOnCourse, checkpoint_result, opt_call}
-use Rattle.mm_model.specs.Steps.{Reads}
+use Rattle.mm_model.specs.History.{Reads}
 use Rattle.mm_model.specs.declared.refusal.Refusal.TheVariants.{Device as Faulted}
 use Rattle.mm_call.specs.CallOutcome.{state_seen}
-use Rattle.mm_call.specs.Trails.{StepIsMade}
+use Rattle.mm_call.specs.Standing.{StepIsMade}
 use Rattle.mm_call.specs.Checkpoints.{Closes}
-use Rattle.mm_call.specs.EndedCall.{end_by_fault, is_broken}
+use Rattle.mm_call.specs.CallKind.{end_by_fault, is_broken}
 use Rattle.mm_call.specs.declared.ended.AskResult.TheVariants.{Broken}
 use Rattle.mm_opt.specs.Checkpoints.{FindsClosing}
 use Rattle.mm_opt.specs.declared.segment.Checkpointed.TheVariants.{NoSegment}
 use Rattle.mm_opt.specs.declared.segment.CheckpointRefusal.TheVariants as refusal
-use Rattle.mm_opt.proofs.Stepping.{read_is, two_brought, seen_is}
+use Rattle.mm_opt.proofs.Accepting.{read_is, two_brought, seen_is}
 use Rattle.mm_opt.proofs.Going.{few_acts}
 use Rattle.mm_opt.proofs.Checkpointing.{closed_or, closed_fault, ClosingIs, closing_is, Each, each_closing}
 

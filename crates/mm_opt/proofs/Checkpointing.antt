@@ -1,15 +1,27 @@
--- The ends of a checkpoint, and what it leaves and counts.
+-- The ends of a checkpoint, and what it leaves and counts. With it: the number of the step behind
+-- one that goes on is the next.
+use Rattle.mm_seal.specs.declared.cell.CellFault.TheVariants as fault
+use Rattle.mm_machine.specs.Acts.{number_in}
+use Rattle.mm_machine.specs.OpSteps.{OpMeaning}
+use Rattle.mm_machine.specs.OpSteps as reading
+use Rattle.mm_machine.specs.declared.call.StepResult.TheVariants.{Going}
+use Rattle.mm_machine.specs.declared.change.Change as change
+use Rattle.mm_machine.specs.declared.operation.Sight.{Sight}
+use Rattle.mm_machine.specs.declared.operation.Sight.TheVariants as sight
+use Rattle.mm_machine.specs.declared.reading.Halt.{Halt}
+use Rattle.mm_opt.specs.Checkpoints.{FindsClosing, one_step, two_steps, three_steps}
+use Rattle.mm_opt.specs.declared.segment.Checkpointed.TheVariants.{Done, NoSegment}
+use Rattle.mm_opt.specs.declared.segment.CheckpointRefusal.TheVariants as refusal
 use Rattle.mm_opt.proofs.Below.{◌≡◌, ℕ, Bool, true, false, List, Option, None, Some, Result, Ok, Err, refl, ap, ◌∙◌, sym, subst, next_count}
 use Rattle.mm_opt.proofs.Below.{bytes_eq, Variant, Basic, Opt, zero_bytes, StepFault, Standing, ReadCell, WriteCell, ReadRegister, StepGoes}
 use Rattle.mm_opt.proofs.Below.{Cell, CellFault, CountsHandedFault, blamed, blamed_later, read_untouched, register_untouched}
 use Rattle.mm_opt.proofs.Below.{then_untouched, Checkpointed, CheckpointRefusal, Segment, Open, Shut, StepsAre, closing_fault_of}
 use Rattle.mm_opt.proofs.Below.{closing_fault_in, segment_by, segment_in, closed_cell, closing_by, LooksAtSegment, FindsSegment}
 use Rattle.mm_opt.proofs.Below.{WeighsRegister, WritesClosing, result_of_closing_write, EndsClosing, EndsLooking, ClosesSegment}
-use Rattle.mm_opt.proofs.Below.{LeavesStill, ClosingStepsRefused, ClosingStepsBy}
-use Rattle.mm_seal.specs.declared.cell.CellFault.TheVariants as fault
-use Rattle.mm_opt.specs.declared.segment.Checkpointed.TheVariants.{Done, NoSegment}
-use Rattle.mm_opt.specs.declared.segment.CheckpointRefusal.TheVariants as refusal
-use Rattle.mm_opt.specs.Checkpoints.{FindsClosing, one_step, two_steps, three_steps}
+use Rattle.mm_opt.proofs.Below.{LeavesStill, ClosingStepsRefused, ClosingStepsBy, ◌+◌, Meaning, Batch, BatchAnswer, Refusal, Begun, Seen}
+use Rattle.mm_opt.proofs.Below.{Changing, BatchFinding, Repeat, Change, Extending, Emptying, Placing, Writing, BatchStage}
+use Rattle.mm_opt.proofs.Below.{finding_of_machine, opt_operation}
+use Rattle.mm_opt.proofs.Reading.{ReadsRegister, weighs_told, IsByFlagIn, made}
 
 -- what a checkpoint gives by its last step
 abbrev pub closed_or : Option StepFault → Result Checkpointed CheckpointRefusal
@@ -138,3 +150,47 @@ closing_steps old = each_closing old (λ (n : Standing) (r : Result Checkpointed
     g.writes ∙ ap next_count (w.goes.writes ∙ l.goes.writes),
   );
 })
+
+-- The number of the step behind one that goes on is the next.
+
+module _ (meaning : Meaning) (offer : List ℕ) (b : Batch) where
+  abbrev asked : OpMeaning BatchAnswer Refusal
+  asked = opt_operation meaning offer b
+
+  begun_next : (seen : Result (Sight BatchAnswer) (Halt Refusal)) (old middle new : Standing) (next : BatchStage)
+      → reading.OpLooks asked old middle seen → reading.SightLeads seen middle new (Going next) → reading.number_of 5 next ≡ 2
+  begun_next (Err why) old middle new next l s = absurd (cc)
+  begun_next (Ok (sight.Found found)) old middle new next l s = absurd l.1.said
+  begun_next (Ok (sight.Cell cell)) old middle new next l s = let same : next ≡ Seen cell = cc in rw same refl
+
+  found_number : (flag : Bool) (it : change.Change) → IsByFlagIn flag it → number_in 5 it ≡ 3
+  found_number flag (Extending value) by = refl
+  found_number flag (Emptying opening) by = refl
+  found_number flag _ by = absurd by
+
+  seen_next : (found : Result BatchFinding (Halt Refusal)) (cell : Cell) (old new : Standing) (next : BatchStage)
+      → ReadsRegister meaning offer b cell old new (finding_of_machine found) → Going next ≡ reading.step_of_finding found
+      → reading.number_of 5 next ≡ 3
+  seen_next (Err why) cell old new next r e = absurd (cc)
+  seen_next (Ok (Repeat answer)) cell old new next r e = absurd (cc)
+  seen_next (Ok (Change ready)) cell old new next r e =
+      let m = made meaning cell b offer old new (Ok (Change ready)) r in
+      let same : next ≡ Changing ready = cc in rw same (found_number cell.flag ready.change m.by_flag)
+
+  change_next : (it : change.Change) (answer : BatchAnswer) (fault : Option StepFault) (next : BatchStage)
+      → Going next ≡ reading.step_after_change asked (record { change = it; answer = answer }) fault
+      → reading.number_of 5 next ≡ number_in 5 it + 1
+  change_next it answer (Some fault) next e = absurd (cc)
+  change_next (Extending value) answer None next e = absurd (cc)
+  change_next (Emptying opening) answer None next e =
+      let same : next ≡ Changing (record { change = Placing opening; answer = answer }) = cc in rw same refl
+  change_next (Placing opening) answer None next e =
+      let same : next ≡ Changing (record { change = Writing opening.next; answer = answer }) = cc in rw same refl
+  change_next (Writing bytes) answer None next e = absurd (cc)
+
+  pub numbers : (stage next : BatchStage) (old new : Standing) → reading.OpSteps asked stage old new (Going next)
+      → reading.number_of 5 next ≡ reading.number_of 5 stage + 1
+  numbers Begun next old new s = begun_next s.seen old s.middle new next s.looks s.leads
+  numbers (Seen cell) next old new s = seen_next s.found cell old new next (weighs_told meaning offer b cell old new s.found s.finds)
+      s.gives
+  numbers (Changing ready) next old new s = change_next ready.change ready.answer s.fault next s.gives

@@ -5,10 +5,9 @@ use Rattle.mm_opt.proofs.Below.{CheckpointRefusal, Segment, Open, Shut, closing_
 use Rattle.mm_opt.proofs.Below.{FindsSegment, ClosesSegment}
 use Rattle.std.specs.Result.{result_map_both}
 use Rattle.mm_machine.specs.Acts.{MayChange, act_in, is_extension_left, number_in}
-use Rattle.mm_machine.specs.OpEnds.{OpActs, FindingEnds, OpEnds, goes_on, breaks_off}
-use Rattle.mm_machine.specs.OpReads.{CellSays, StepDraws, SightFinds, FindsRoom, OpLooks as LooksAt, RegisterSays, RoomIsMadeFor}
-use Rattle.mm_machine.specs.OpReads.{OpWeighs as WeighsAt}
-use Rattle.mm_machine.specs.OpSteps.{MayGoOn, SightLeads, OpSteps, act_of, ending_by_halt, number_of, step_of_finding, step_after_change}
+use Rattle.mm_machine.specs.OpSteps.{OpActs, FindingEnds, OpEnds, goes_on, breaks_off, CellSays, StepDraws, SightFinds, FindsRoom}
+use Rattle.mm_machine.specs.OpSteps.{OpLooks as LooksAt, RegisterSays, RoomIsMadeFor, OpWeighs as WeighsAt, MayGoOn, SightLeads, OpSteps}
+use Rattle.mm_machine.specs.OpSteps.{act_of, ending_by_halt, number_of, step_of_finding, step_after_change}
 use Rattle.mm_machine.specs.declared.call.OpResult.{OpResult}
 use Rattle.mm_machine.specs.declared.call.OpResult.TheVariants.{Answered, Broken}
 use Rattle.mm_machine.specs.declared.call.OpStage.{OpStage}
@@ -23,10 +22,10 @@ use Rattle.mm_machine.specs.declared.reading.Halt.{Halt}
 use Rattle.mm_machine.specs.declared.reading.Halt.TheVariants.{Fault, Refused, Lacks}
 use Rattle.mm_opt.specs.declared.segment.Checkpointed.TheVariants.{Done, NoSegment}
 use Rattle.mm_opt.specs.declared.segment.CheckpointRefusal.TheVariants as refusal
-use Rattle.mm_opt.specs.Checkpoints.{ClosesBy, FindsClosing, WeighsAndCloses}
-use Rattle.mm_call.specs.CallTurn.{turn_with}
-use Rattle.mm_opt.specs.CheckpointTurns.{ClosingActsAt, ClosingTurn, StepIsClosing, closing_turn_fault, turn_of_step}
-use Rattle.mm_opt.specs.ClosingOperation.{GivesAs, IsClosing, closing_operation, result_of_end, sight_of, write_finding, write_of}
+use Rattle.mm_opt.specs.Checkpoints.{ClosesBy, FindsClosing, WeighsAndCloses, GivesAs, IsClosing, closing_operation, result_of_end}
+use Rattle.mm_opt.specs.Checkpoints.{sight_of, write_finding, write_of}
+use Rattle.mm_call.specs.Checkpoints.{turn_with}
+use Rattle.mm_opt.specs.CheckpointPromise.{ClosingActsAt, ClosingTurn, StepIsClosing, closing_turn_fault, turn_of_step}
 
 -- What is found, and what the machine has of it
 

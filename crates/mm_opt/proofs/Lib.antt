@@ -1,17 +1,9 @@
 pub mod Above
 mod Below
-mod FirstLaws
-mod Reading
-mod Findings
-mod Numbering
-mod Asking
 mod Writing
-mod ClosingByMachine
+mod Reading
 mod Checkpointing
-mod Acting
+mod ClosingByMachine
 mod Accepting
-mod Stepping
 mod Going
 mod Checking
-mod Completeness
-mod Asked

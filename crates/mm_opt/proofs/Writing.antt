@@ -1,15 +1,115 @@
--- What a call counts: its steps, and how often it writes the cell, by the flag that the platform tells.
-use Rattle.mm_opt.proofs.Below.{◌≡◌, ℕ, true, false, List, Some, Result, Ok, Err, refl, sym, ap, ◌∙◌, inl, inr, next_count, Standing}
-use Rattle.mm_opt.proofs.Below.{Meaning, Batch, Cell, CellFault, IsCell, cell_spelling, reads_cell-same, is_long, BatchAnswer, Refusal}
-use Rattle.mm_opt.proofs.Below.{Long, AskResult, goes_on, breaks_off, AreStepsToEnd, IsCallToEnd, IsWholeCall, result_of, each_call}
-use Rattle.mm_opt.proofs.Below.{answered_result, BatchFinding, Repeat, Change, Extending, Emptying, remaining_acts, is_cell_of, cell_in}
-use Rattle.mm_opt.proofs.Below.{acts_for, answer_in, opt_call, Opt, StepsAre, three_steps, four_steps, five_steps, StepsRefused, StepsBy}
-use Rattle.mm_opt.proofs.Below.{WritesByFlag}
+-- What a call counts. With it: the first cell and snapshot; the ends of a call.
+use Rattle.mm_digest.specs.declared.digest.Digest.{Digest}
 use Rattle.mm_machine.specs.declared.change.Change as change
+use Rattle.mm_model.specs.Moves.{IsFit}
+use Rattle.mm_model.specs.Standing.{digest_of}
 use Rattle.mm_model.specs.declared.refusal.Refusal.TheVariants.{Device}
-use Rattle.mm_opt.proofs.Findings.{Made, own_is, first_refused, made}
-use Rattle.mm_opt.proofs.Reading.{ReadsOwnCell, ReadsRegister, room_only}
-use Rattle.mm_opt.proofs.Asking.{Each, each_ask}
+use Rattle.mm_opt.proofs.Below.{◌≡◌, ℕ, false, List, [], ap, ◌∙◌, Opt, zero_bytes, start_digest_of, Meaning, Cell, InOpt, cell_spelling}
+use Rattle.mm_opt.proofs.Below.{Content, sealed_snapshot_of, anchor_of, opt_instance, first_history, cell_of, issued_bytes, anchor-nil}
+use Rattle.mm_opt.proofs.Below.{Result, Ok, Err, sym, subst, refl, IfOk, Standing, IsLawful, Batch, CellFault, Blank, Unspelled, IsCell}
+use Rattle.mm_opt.proofs.Below.{ReadsCell, BatchAnswer, Refusal, Long, AskResult, AreStepsToEnd, EndsByFinding, IsCallToEnd, IsWholeCall}
+use Rattle.mm_opt.proofs.Below.{result_of, end_of_refusal, each_call, ends_result, steps_give, given_all, BatchFinding, acts_for, answer_in}
+use Rattle.mm_opt.proofs.Below.{is_cell_of, cell_in, opt_call, true, Some, inl, inr, next_count, reads_cell-same, is_long, goes_on}
+use Rattle.mm_opt.proofs.Below.{breaks_off, answered_result, Repeat, Change, Extending, Emptying, remaining_acts, StepsAre, three_steps}
+use Rattle.mm_opt.proofs.Below.{four_steps, five_steps, StepsRefused, StepsBy, WritesByFlag}
+use Rattle.mm_opt.proofs.Reading.{ReadsOn, ReadsOwnCell, ReadsRegister, reads_told, own_is, made, Made, first_refused, room_only}
+
+-- The first cell and snapshot.
+
+first_anchor : (id said : ℕ) (anchor : Digest) → said ≡ id → anchor.bytes ≡ start_digest_of Opt said → anchor.bytes ≡ anchor_of id []
+first_anchor id said anchor id_is start_is = start_is ∙ ap (start_digest_of Opt) id_is ∙ anchor-nil id
+
+abbrev pub made_cell : ℕ → Digest → List ℕ → List ℕ → Cell
+made_cell id anchor key barrier = record { variant = Opt; «module» = id; flag = false; summary = anchor; key = key; barrier = barrier }
+
+abbrev pub made_content : Meaning → Digest → Digest → Content
+made_content meaning anchor extension =
+    record { id = meaning.id; place = InOpt anchor extension; position = 0; state = meaning.first }
+
+module _ (meaning : Meaning) (said : ℕ) (anchor : Digest) (key barrier : List ℕ) (id_is : said ≡ meaning.id)
+    (start_is : anchor.bytes ≡ start_digest_of Opt said) where
+  pub first_cell : cell_spelling (made_cell said anchor key barrier)
+      ≡ cell_spelling (cell_of (opt_instance meaning key barrier) first_history)
+  first_cell =
+      let a = first_anchor meaning.id said anchor id_is start_is in λ j. cell_spelling (made_cell (id_is j) (digest_of (a j)) key barrier)
+
+  pub first_snapshot : (extension : Digest) → extension.bytes ≡ zero_bytes
+      → sealed_snapshot_of key (made_content meaning anchor extension) ≡ issued_bytes (opt_instance meaning key barrier) first_history
+  first_snapshot extension extension_is =
+      let a = first_anchor meaning.id said anchor id_is start_is in
+      λ j. sealed_snapshot_of key (made_content meaning (digest_of (a j)) (digest_of (extension_is j)))
+
+-- The ends of a call: what holds of each holds of every call; so that each answer is fit.
+
+-- where the first step refuses, that ends the call
+pub refused_first : (why : Refusal) (found : Result BatchFinding Refusal) (meaning : Meaning) (first second new : Standing) (offer : List ℕ)
+    (b : Batch) (ended : AskResult) → ReadsOn meaning offer b (Err why) first second found → EndsByFinding opt_call found second new ended
+    → (new ≡ first) × (ended ≡ end_of_refusal why)
+refused_first why found meaning first second new offer b ended on e =
+    let x : (new ≡ second) × (ended ≡ end_of_refusal why) =
+    subst (λ (f : Result BatchFinding Refusal). EndsByFinding opt_call f second new ended) on.1 e in
+    (x.0 ∙ on.0, x.1)
+
+module _ (meaning : Meaning) (offer : List ℕ) (b : Batch) (old : Standing) (P : Standing → Result BatchAnswer Refusal → Type 0) where
+  -- What holds at each end: the first step fails or is refused; or the second; or the steps were made that commit what was found, as far as
+  -- they went.
+  pub record Each : Type 0 where
+    pub refuses : (why : Refusal) (one : Standing) → ReadsOwnCell meaning.id old one (Err why) → P one (Err why)
+    pub later_refuses : (why : Refusal) (cell : Cell) (one two : Standing) → ReadsOwnCell meaning.id old one (Ok cell)
+        → ReadsRegister meaning offer b cell one two (Err why) → P two (Err why)
+    pub commits : (found : BatchFinding) (cell : Cell) (one two new : Standing) (ended : AskResult)
+        → ReadsOwnCell meaning.id old one (Ok cell)
+        → ReadsRegister meaning offer b cell one two (Ok found) → AreStepsToEnd (acts_for found) (answer_in found) two new ended
+        → P new (result_of ended)
+
+  pub each_ask : Each → (new : Standing) (ended : AskResult) → IsCallToEnd opt_call meaning old new offer b ended → P new (result_of ended)
+  each_ask each new ended a =
+      let r = reads_told meaning offer b old a.middle a.found a.reads in
+      seen r.cell a.found r.middle a.middle r.reads r.on a.ends
+    where
+      ends : (found : Result BatchFinding Refusal) (cell : Cell) (one two : Standing) → ReadsOwnCell meaning.id old one (Ok cell)
+          → ReadsRegister meaning offer b cell one two found → EndsByFinding opt_call found two new ended → P new (result_of ended)
+      ends (Err why) cell one two r on e = ends_result opt_call P why two new ended e (each.later_refuses why cell one two r on)
+      ends (Ok found) cell one two r on e = each.commits found cell one two new ended r on e
+
+      seen : (cell : Result Cell Refusal) (found : Result BatchFinding Refusal) (one two : Standing) → ReadsOwnCell meaning.id old one cell
+          → ReadsOn meaning offer b cell one two found → EndsByFinding opt_call found two new ended → P new (result_of ended)
+      seen (Err why) found one two r on e =
+          ends_result opt_call P why one new ended (refused_first why found meaning one two new offer b ended on e) (each.refuses why one r)
+      seen (Ok cell) found one two r on e = ends found cell one two r on e
+
+  pub each_asked : P old (Err Long) → Each → (new : Standing) (result : Result BatchAnswer Refusal)
+      → IsWholeCall opt_call meaning old new offer b result → P new result
+  each_asked long each new result = each_call opt_call meaning old new offer b P result long (each_ask each new)
+
+-- each answer is fit
+
+-- the cell that is seen is spelled
+seen_spelled : (read : Result Cell CellFault) (id : ℕ) (bytes : List ℕ) (seen : Cell) → ReadsCell bytes read → Ok seen ≡ cell_in id read
+    → IsCell seen
+seen_spelled (Err Blank) id bytes seen reads e = cc
+seen_spelled (Err Unspelled) id bytes seen reads e = cc
+seen_spelled (Ok cell) id bytes seen reads e = subst IsCell (sym (own_is (is_cell_of id cell) cell seen (sym e))) reads.0
+
+-- what is handed out is what was found
+abbrev IsFitIn : Batch → Result BatchAnswer Refusal → Type 0
+IsFitIn b result = IfOk result (λ answer. IsFit b answer)
+
+pub fits : (meaning : Meaning) → IsLawful meaning → (old new : Standing) (offer : List ℕ) (b : Batch) (result : Result BatchAnswer Refusal)
+    → IsWholeCall opt_call meaning old new offer b result → IsFitIn b result
+fits meaning lawful old new offer b =
+    each_asked meaning offer b old (λ (s : Standing) (r : Result BatchAnswer Refusal). IsFitIn b r) tt (record {
+      refuses = λ why one r. tt;
+      later_refuses = λ why cell one two r on. tt;
+      commits = λ found cell one two new ended r on s.
+          let f = r.finds refl in
+          given_all (IsFit b) ended (answer_in found) (steps_give (acts_for found) (answer_in found) two new ended s)
+          ((made meaning cell b offer one two (Ok found) on).fit lawful
+          (seen_spelled f.said.read meaning.id f.bytes cell f.said.reads f.said.found_is));
+    })
+    new
+
+-- What a call counts: its steps, and how often it writes the cell, by the flag that the platform tells.
 
 -- the cell that is seen is the one that is told
 told_cell : (id : ℕ) (old one : Standing) (cell seen : Cell) → ReadsOwnCell id old one (Ok seen) → IsCell cell

@@ -1,14 +1,59 @@
--- What a call answers, and what it writes.
-use Rattle.std.specs.Prelude.{ℕ, Bool, true, false, List, Result, Ok, Err}
-use Rattle.mm_opt.specs.Below.{zero_bytes, extended_digest_of, cell_spelling, Content, Snapshot, Cell, PartsFault, Form, Kind, Place, Batch}
-use Rattle.mm_opt.specs.Below.{Meaning, digest_of, BatchAnswer, Refusal, answer_at, check_of_offer}
+-- What a call answers, and what it writes. With it: what a call finds, and where it stands; what an
+-- offered place is compared with, and the verdict by digests on it.
+use Rattle.std.specs.Prelude.{ℕ, Bool, ◌&&◌, List, true, false, Result, Ok, Err}
+use Rattle.std.specs.Str.{bytes_eq}
 use Rattle.mm_digest.specs.declared.variant.Variant.TheVariants as variants
-use Rattle.mm_seal.specs.declared.snapshot.Place.TheVariants.{Opt}
-use Rattle.mm_model.specs.declared.refusal.Refusal.TheVariants as refusal
-use Rattle.mm_machine.specs.declared.operation.OpFinding.TheVariants.{Repeat, Change}
+use Rattle.mm_seal.specs.declared.snapshot.Place.TheVariants.{Basic, Opt}
+use Rattle.mm_machine.specs.declared.call.OpStage as call
 use Rattle.mm_machine.specs.declared.change.Change.TheVariants.{Extending, Emptying}
-use Rattle.mm_opt.specs.BatchFinding.{BatchFinding}
-use Rattle.mm_opt.specs.Order.{batch_value, has_lost_power, verdict_of}
+use Rattle.mm_machine.specs.declared.operation.OpFinding as found
+use Rattle.mm_machine.specs.declared.operation.OpFinding.TheVariants.{Repeat, Change}
+use Rattle.mm_machine.specs.declared.operation.ReadyChange as ready
+use Rattle.mm_model.specs.declared.refusal.Refusal.TheVariants as refusal
+use Rattle.mm_opt.specs.Below.{BatchAnswer, zero_bytes, Snapshot, Cell, Place, Batch, normal_batch, guard, Point, forms_of, opt_verdict}
+use Rattle.mm_opt.specs.Below.{Verdict, extended_digest_of, cell_spelling, Content, PartsFault, Form, Kind, Meaning, digest_of, Refusal}
+use Rattle.mm_opt.specs.Below.{answer_at, check_of_offer}
+
+-- What a call finds, and where it stands: the machine's words, with the answer to a batch.
+
+abbrev pub BatchFinding : Type 0
+BatchFinding = found.OpFinding BatchAnswer
+
+abbrev pub BatchStage : Type 0
+BatchStage = call.OpStage BatchAnswer
+
+-- What an offered place is compared with, and the verdict by digests on it.
+
+-- the anchor and the extension of an offered place; no offer to Opt has a place of Basic
+abbrev pub anchor_in : Place → List ℕ
+anchor_in (Opt anchor extension) = anchor.bytes
+anchor_in (Basic summary) = summary.bytes
+
+abbrev pub extension_in : Place → List ℕ
+extension_in (Opt anchor extension) = extension.bytes
+extension_in (Basic summary) = summary.bytes
+
+abbrev pub point : List ℕ → List ℕ → Point
+point anchor extension = record { anchor = anchor; extension = extension }
+
+-- the value by which the batch extends the register
+abbrev pub batch_value : Cell → Batch → List ℕ
+batch_value cell b = guard cell.barrier (normal_batch b)
+
+-- power was lost inside an open segment
+abbrev pub has_lost_power : Cell → List ℕ → Bool
+has_lost_power cell register = cell.flag && bytes_eq register zero_bytes
+
+-- the verdict by digests on an offered place
+abbrev pub verdict_at : Cell → List ℕ → Place → Batch → Verdict
+verdict_at cell register place b =
+    opt_verdict cell.flag cell.summary.bytes register
+    (forms_of (anchor_in place) (extension_in place)) (batch_value cell b)
+
+abbrev pub verdict_of : Cell → List ℕ → Snapshot → Batch → Verdict
+verdict_of cell register offered b = verdict_at cell register offered.content.place b
+
+-- What a call answers, and what it writes.
 
 -- the extension at which the open segment stands: the register's value, or zero where none is open
 abbrev pub extension_at : Bool → List ℕ → List ℕ

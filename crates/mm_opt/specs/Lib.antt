@@ -1,14 +1,5 @@
 pub mod Below
-pub mod BatchFinding
-pub mod CellSight
-pub mod Order
 pub mod Answers
-pub mod Operation
-pub mod OptCall
-pub mod Checkpoints
-pub mod ClosingOperation
-pub mod CheckpointTurns
-pub mod CheckpointOnCourse
 pub mod AskPromise
-pub mod TurnPromise
+pub mod Checkpoints
 pub mod CheckpointPromise

@@ -2,9 +2,9 @@
 
 ghost use Rattle.std.specs.Prelude.{◌≡◌, true, false, IfOk, IfErr};
 ghost use Rattle.mm_module.specs.Batches.{batch_of};
-ghost use Rattle.mm_model.specs.Long.{is_long};
+ghost use Rattle.mm_model.specs.Moves.{is_long};
 ghost use Rattle.mm_machine.specs.declared.call.OpStage.TheVariants.{Begun};
-ghost use Rattle.mm_call.specs.CallTurn.{turn_of};
+ghost use Rattle.mm_call.specs.Checkpoints.{turn_of};
 
 use crate::operation::OptAsk;
 use mm_call::{AskResult, KeptKey};
@@ -22,7 +22,7 @@ pub struct Call {
 }
 
 impl Model for Call {
-    ghost use Rattle.mm_opt.specs.BatchFinding.{BatchStage};
+    ghost use Rattle.mm_opt.specs.Answers.{BatchStage};
 
     ghost Value = { BatchStage };
 
@@ -50,9 +50,9 @@ pub fn begin(batch: Batch<'_>) -> Result<Call, Refusal>
 impl Call {
     ghost use Rattle.std.specs.Prelude.{◌≡◌, false};
     ghost use Rattle.mm_module.specs.Batches.{batch_of};
-    ghost use Rattle.mm_model.specs.Long.{is_long};
+    ghost use Rattle.mm_model.specs.Moves.{is_long};
     ghost use Rattle.mm_machine.specs.OpSteps.{MayGoOn, number_of};
-    ghost use Rattle.mm_opt.specs.TurnPromise.{OptTurnPromise};
+    ghost use Rattle.mm_opt.specs.AskPromise.{OptTurnPromise};
 
     /// The number of the next device step, from 1.
     pub fn next_step(&self) -> u8

@@ -1,8 +1,7 @@
 //! What a checkpoint asks of a platform: that it close the open segment.
 
 ghost use Rattle.std.specs.Prelude.{◌≡◌, ℕ, None};
-ghost use Rattle.mm_opt.specs.Checkpoints.{SeesSegment, closing_fault_in, closing_in};
-ghost use Rattle.mm_opt.specs.ClosingOperation.{closing_operation};
+ghost use Rattle.mm_opt.specs.Checkpoints.{SeesSegment, closing_fault_in, closing_in, closing_operation};
 
 use crate::segment::{CheckpointRefusal, Checkpointed, Segment};
 use crate::verdicts::is_zero;

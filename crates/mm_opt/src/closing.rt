@@ -2,9 +2,8 @@
 
 ghost use Rattle.std.specs.Prelude.{◌≡◌};
 ghost use Rattle.mm_machine.specs.declared.call.OpStage.TheVariants.{Begun};
-ghost use Rattle.mm_opt.specs.CheckpointTurns.{StepIsClosing, turn_of_step};
-ghost use Rattle.mm_opt.specs.CheckpointPromise.{CheckpointPromise};
-ghost use Rattle.mm_opt.specs.ClosingOperation.{result_of_end};
+ghost use Rattle.mm_opt.specs.CheckpointPromise.{StepIsClosing, turn_of_step, CheckpointPromise};
+ghost use Rattle.mm_opt.specs.Checkpoints.{result_of_end};
 
 use crate::close::OptCheckpoint;
 use crate::segment::{CheckpointRefusal, Checkpointed};
@@ -23,7 +22,7 @@ pub struct CheckpointCall {
 impl Model for CheckpointCall {
     ghost use Rattle.mm_machine.specs.declared.call.OpStage.{OpStage};
     ghost use Rattle.mm_opt.specs.declared.segment.Checkpointed.{Checkpointed};
-    ghost use Rattle.mm_opt.specs.ClosingOperation.{IsClosing};
+    ghost use Rattle.mm_opt.specs.Checkpoints.{IsClosing};
 
     ghost Value = { OpStage Checkpointed };
 
@@ -47,7 +46,7 @@ pub fn begin_checkpoint() -> CheckpointCall
 impl CheckpointCall {
     ghost use Rattle.std.specs.Prelude.{◌≡◌};
     ghost use Rattle.mm_machine.specs.OpSteps.{number_of};
-    ghost use Rattle.mm_opt.specs.CheckpointTurns.{IsClosingTurn, ClosingActsAt};
+    ghost use Rattle.mm_opt.specs.CheckpointPromise.{IsClosingTurn, ClosingActsAt};
 
     /// The number of the next device step, from 1.
     pub fn next_step(&self) -> u8

@@ -6,11 +6,9 @@ ghost use Rattle.mm_digest.specs.declared.variant.Variant.TheVariants.{Opt};
 ghost use Rattle.mm_module.specs.Batches.{batch_of};
 ghost use Rattle.mm_seal.specs.Snapshot.{variant_of};
 ghost use Rattle.mm_model.specs.Verdicts.{forms_of, opt_verdict};
-ghost use Rattle.mm_opt.specs.CellSight.{SeesCell};
-ghost use Rattle.mm_opt.specs.Order.{anchor_in, extension_in};
-ghost use Rattle.mm_opt.specs.Operation.{FindsIn};
-ghost use Rattle.mm_opt.specs.Answers.{place_after, change_of, finding_in_offer};
-ghost use Rattle.mm_call.specs.Refusals.{IsOrMemory, fault_in};
+ghost use Rattle.mm_opt.specs.AskPromise.{SeesCell, FindsIn};
+ghost use Rattle.mm_opt.specs.Answers.{anchor_in, extension_in, place_after, change_of, finding_in_offer};
+ghost use Rattle.mm_call.specs.CallFinding.{IsOrMemory, fault_in};
 
 use crate::operation::OptAsk;
 use crate::verdicts::{has_lost_power, verdict};

@@ -3,7 +3,7 @@
 ghost use Rattle.std.specs.Prelude.{◌≡◌, IfOk};
 ghost use Rattle.mm_seal.specs.Cell.{cell_spelling};
 ghost use Rattle.mm_model.specs.History.{first_history};
-ghost use Rattle.mm_model.specs.InstanceWords.{opt_instance};
+ghost use Rattle.mm_model.specs.Chains.{opt_instance};
 ghost use Rattle.mm_model.specs.Standing.{cell_of, issued_bytes};
 
 use mm_bytes::Memory;

@@ -2,8 +2,8 @@
 
 ghost use Rattle.std.specs.Prelude.{◌≡◌, false};
 ghost use Rattle.mm_module.specs.Batches.{batch_of};
-ghost use Rattle.mm_model.specs.Long.{is_long};
-ghost use Rattle.mm_opt.specs.Operation.{opt_operation};
+ghost use Rattle.mm_model.specs.Moves.{is_long};
+ghost use Rattle.mm_opt.specs.AskPromise.{opt_operation};
 
 use crate::find::{find_cell, find_in};
 use mm_bytes::CELL_LENGTH;

@@ -5,7 +5,7 @@ ghost use Rattle.std.specs.List.{list_any};
 ghost use Rattle.std.specs.Str.{bytes_eq};
 ghost use Rattle.mm_digest.specs.Messages.{zero_bytes};
 ghost use Rattle.mm_model.specs.Verdicts.{forms_of, is_fresh_form, is_repeat_form, opt_verdict};
-ghost use Rattle.mm_opt.specs.Order.{point, has_lost_power};
+ghost use Rattle.mm_opt.specs.Answers.{point, has_lost_power};
 
 use mm_digest::{Digest, anchored, extended, zero};
 use mm_model::Verdict;

@@ -2,18 +2,13 @@
 
 ghost use Rattle.std.specs.Prelude.{◌≡◌, true, false, Err, IfOk};
 ghost use Rattle.std.specs.Result.{result_err};
-ghost use Rattle.mm_machine.specs.OpEnds.{acts_for, answer_in};
-ghost use Rattle.mm_machine.specs.Prepared.{StandsAsPrepared, found_in};
+ghost use Rattle.mm_machine.specs.OpSteps.{acts_for, answer_in, StandsAsPrepared, found_in};
 ghost use Rattle.mm_module.specs.Batch.{One};
 ghost use Rattle.mm_module.specs.Batches.{batch_of};
-ghost use Rattle.mm_model.specs.Long.{is_long};
-ghost use Rattle.mm_call.specs.CallKind.{CommitsFinding, IsCallSoFar};
-ghost use Rattle.mm_call.specs.Untouched.{CountsHandedFault, batch_result_of};
-ghost use Rattle.mm_call.specs.Machine.{CallReads};
-ghost use Rattle.mm_call.specs.Refusals.{fault_in};
-ghost use Rattle.mm_opt.specs.AskPromise.{OptAskPromise};
-ghost use Rattle.mm_opt.specs.OptCall.{opt_call};
-ghost use Rattle.mm_opt.specs.Operation.{opt_operation};
+ghost use Rattle.mm_model.specs.Moves.{is_long};
+ghost use Rattle.mm_call.specs.CallKind.{CommitsFinding, IsCallSoFar, CallReads};
+ghost use Rattle.mm_call.specs.CallFinding.{CountsHandedFault, batch_result_of, fault_in};
+ghost use Rattle.mm_opt.specs.AskPromise.{OptAskPromise, opt_call, opt_operation};
 
 use crate::operation::OptAsk;
 use mm_call::{Committed, KeptKey, commit, finish_call, read_call_alone};

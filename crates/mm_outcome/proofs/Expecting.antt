@@ -14,11 +14,11 @@ use Rattle.mm_outcome.proofs.Below.{foreign_fine, asks, history_with_values, tak
 use Rattle.mm_outcome.proofs.Below.{foreign_move_values-foreign, foreign_move_values-first, moves_from_reset-foreign, AreOwn, own_asked}
 use Rattle.mm_outcome.proofs.Below.{own_checked, Shape, still, reset, shape, bare, listed_bare, holds_open, within_of, within_items}
 use Rattle.mm_outcome.proofs.Below.{reset_messages, opt_calls_agree_by_lists, read_moves, opt_checkpoints_agree_by_lists}
-use Rattle.mm_call.specs.MoveLaws.{IsBasicMove}
+use Rattle.mm_call.specs.OfferLaws.{IsBasicMove}
 use Rattle.mm_outcome.proofs.Below.{Variant, instance_by, AreApartIn, IsExpected, zero_bytes, run_messages, foreign_values, asked_batches}
 use Rattle.mm_outcome.proofs.Following.{Variants, event_same, expected_from}
-use Rattle.mm_platform.specs.StandingWords.{due_values}
-use Rattle.mm_model.specs.MessagesWords.{move_messages}
+use Rattle.mm_platform.specs.Standing.{due_values}
+use Rattle.mm_model.specs.Messages.{move_messages}
 
 -- Basic
 

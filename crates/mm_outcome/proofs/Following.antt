@@ -1,22 +1,96 @@
--- A schedule gives the same by digests as by lists: one induction over events, for both variants.
-use Rattle.mm_outcome.proofs.Below.{ℕ, ◌+◌, Bool, true, false, List, [], ◌∷◌, ◌++◌, map, Option, None, Some, refl, sym, ap, subst}
-use Rattle.mm_outcome.proofs.Below.{if◌then◌else◌, AllByRecursion, Contains, Meddle, Stop, Batch, normal_batch, Instance, History, Foreign}
-use Rattle.mm_outcome.proofs.Below.{PowerMove, history_after, is_long, AreMessagesIn, Digests, digests_after, IsGenuine, each_left}
-use Rattle.mm_outcome.proofs.Below.{each_right, list_level, digest_level, state_after_moves, right_content, CallOutcome, call_outcome}
-use Rattle.mm_outcome.proofs.Below.{CheckpointOutcome, checkpoint_outcome, IsSameCheckpoint, messages_of_moves, right_messages, IsSameCall}
-use Rattle.mm_outcome.proofs.Below.{Event, Ask, Checkpoint, Power, Extend, Reply, offered_bytes, Outcome, way_of, course_of, reply_of}
-use Rattle.mm_outcome.proofs.Below.{snapshots_of, outcome_by, outcome_without_call, ask_event_outcome, closing_reply}
-use Rattle.mm_outcome.proofs.Below.{checkpoint_event_outcome, event_outcome, outcome_of_events, moves_of, event_messages, messages_from}
-use Rattle.mm_outcome.proofs.Below.{event_foreign_values, batches_of, AreGenuine, foreign_values, asked_batches, IsGenuineOffer}
-use Rattle.mm_outcome.proofs.Below.{AgreesThroughout, KeepsHistory, IsSameOutcome}
-use Rattle.mm_outcome.proofs.Parts.{ask_moves, asking_messages}
-use Rattle.mm_outcome.proofs.Below.{start_message, first_history, first_digests, first_snapshots, run_messages, outcome_by_lists}
-use Rattle.mm_outcome.proofs.Below.{outcome_by_digests, IsGenuineRun, each_self}
-use Rattle.mm_outcome.specs.OneEvent.{IsEventWithin}
-use Rattle.mm_outcome.proofs.Below.{Move}
-use Rattle.mm_outcome.proofs.EachWay.{then_all, closing_all}
-use Rattle.mm_schedule.specs.declared.reply.Reply.TheVariants as reply
+-- A schedule gives the same by digests as by lists. With it: parts of what the definitions say of a
+-- call, which proofs speak of alone; what holds of an event's outcome in each way that it may go.
+use Rattle.std.specs.Option.{option_map_or}
+use Rattle.mm_model.specs.declared.answer.BatchAnswer.{BatchAnswer}
+use Rattle.mm_call.specs.CallFinding.{right_content}
+use Rattle.mm_schedule.specs.declared.reply.Cause.{Cause}
 use Rattle.mm_schedule.specs.declared.reply.Cause.TheVariants as cause
+use Rattle.mm_schedule.specs.declared.reply.Reply.{Reply}
+use Rattle.mm_schedule.specs.declared.reply.Reply.TheVariants as reply
+use Rattle.mm_schedule.specs.declared.reply.Way.{Way}
+use Rattle.mm_outcome.specs.OneRun.{IsEventWithin}
+use Rattle.mm_outcome.proofs.Below.{ℕ, ◌-◌, length, Bool, List, [], Option, if◌then◌else◌, Batch, normal_batch, History, Move, Instance}
+use Rattle.mm_outcome.proofs.Below.{is_long, call_outcome, right_messages, list_level, course_of, Meddle, Stop, ◌≡◌, true, false, None}
+use Rattle.mm_outcome.proofs.Below.{Some, refl, Foreign, PowerMove, Level, checkpoint_outcome, Event, Ask, Checkpoint, Power, Extend}
+use Rattle.mm_outcome.proofs.Below.{offered_bytes, Outcome, outcome_by, outcome_without_call, ask_event_outcome, checkpoint_event_outcome}
+use Rattle.mm_outcome.proofs.Below.{event_outcome, ◌∷◌, Cut, CallEnding, Breaks, CheckpointEnding, Stops, moves_after_stop}
+use Rattle.mm_outcome.proofs.Below.{moves_after_call, moves_after_checkpoint, ◌+◌, ◌++◌, map, sym, ap, subst, AllByRecursion, Contains}
+use Rattle.mm_outcome.proofs.Below.{history_after, AreMessagesIn, Digests, digests_after, IsGenuine, each_left, each_right, digest_level}
+use Rattle.mm_outcome.proofs.Below.{state_after_moves, CallOutcome, CheckpointOutcome, IsSameCheckpoint, messages_of_moves, IsSameCall}
+use Rattle.mm_outcome.proofs.Below.{way_of, reply_of, snapshots_of, closing_reply, outcome_of_events, moves_of, event_messages}
+use Rattle.mm_outcome.proofs.Below.{messages_from, event_foreign_values, batches_of, AreGenuine, foreign_values, asked_batches}
+use Rattle.mm_outcome.proofs.Below.{IsGenuineOffer, AgreesThroughout, KeepsHistory, IsSameOutcome, start_message, first_history}
+use Rattle.mm_outcome.proofs.Below.{first_digests, first_snapshots, run_messages, outcome_by_lists, outcome_by_digests, IsGenuineRun}
+use Rattle.mm_outcome.proofs.Below.{each_self}
+
+-- Parts of what the definitions say of a call, which proofs speak of alone.
+
+-- the reply that tells an answer; to a call that was broken off, and to a checkpoint
+abbrev pub told_reply : BatchAnswer → Reply
+told_reply answer = reply.Told answer.again (answer.position - length answer.outputs) answer.outputs
+
+abbrev pub broken_reply : Way → Option ℕ → Reply
+broken_reply how kept = option_map_or (λ position. reply.Kept how position) kept (reply.Nothing how)
+
+abbrev pub stopped_reply : Way → Bool → Reply
+stopped_reply how closed = if closed then reply.Closed how else reply.Nothing how
+
+-- the moves of a call that is asked, and the messages of what is asked of a right offer
+abbrev pub ask_moves : Instance → History → List Meddle → Stop → Option (List ℕ) → Batch → List Move
+ask_moves i y meddles stop offered b =
+    option_map_or (λ bytes. if is_long b then [] else (call_outcome i (list_level i) y (course_of stop meddles) bytes
+    (normal_batch b)).moves) offered []
+
+abbrev pub asking_messages : Instance → Option (List ℕ) → Batch → List (List ℕ)
+asking_messages i offered b =
+    option_map_or (λ bytes. if is_long b then [] else right_messages i (normal_batch b) (right_content i bytes)) offered []
+
+-- What holds of an event's outcome in each way that it may go.
+
+unless_long : {A : Type 0} (P : A → Type 0) (long : Bool) (x z : A) → P x → (long ≡ false → P z) → P (if long then x else z)
+unless_long P true x z p q = p
+unless_long P false x z p q = q refl
+
+module _ {S : Type 0} (i : Instance) (level : Level S) (s : S) (issued : List (List ℕ)) (P : Outcome S → Type 0) where
+  -- nothing was called, and a call was made, whose batch isn't too long
+  pub asked_either : (meddles : List Meddle) (stop : Stop) (offered : Option (List ℕ)) (b : Batch)
+      → ((why : Cause) → P (outcome_without_call s issued (reply.No why))) → ((bytes : List ℕ) → is_long b ≡ false
+      → P (outcome_by level stop issued (call_outcome i level s (course_of stop meddles) bytes (normal_batch b))))
+      → P (ask_event_outcome i level s issued meddles stop offered b)
+  asked_either meddles stop None b refused call = refused cause.Snapshot
+  asked_either meddles stop (Some bytes) b refused call = unless_long P (is_long b) _ _ (refused cause.Long) (call bytes)
+
+  pub record InEachWay : Type 0 where
+    pub refused : (why : Cause) → P (outcome_without_call s issued (reply.No why))
+    pub call : (stop : Stop) (meddles : List Meddle) (bytes : List ℕ) (b : Batch) → is_long b ≡ false
+        → P (outcome_by level stop issued (call_outcome i level s (course_of stop meddles) bytes (normal_batch b)))
+    pub check : (stop : Stop) (meddles : List Meddle)
+        → P (checkpoint_event_outcome level stop issued (checkpoint_outcome i level s (course_of stop meddles)))
+    pub power : P (outcome_without_call (level.made s PowerMove) issued reply.Power)
+    pub extend : (value : List ℕ) → P (outcome_without_call (level.made s (Foreign value)) issued reply.Extended)
+
+  pub in_any_way : InEachWay → (event : Event) → P (event_outcome i level s issued event)
+  in_any_way each (Ask meddles stop offer b) =
+      asked_either meddles stop (offered_bytes issued offer) b each.refused (λ bytes short. each.call stop meddles bytes b short)
+  in_any_way each (Checkpoint meddles stop) = each.check stop meddles
+  in_any_way each Power = each.power
+  in_any_way each (Extend value) = each.extend value
+
+-- what holds of no moves and of a loss of power holds of those that follow a stop
+module _ (P : List Move → Type 0) (none : P []) (power : P (PowerMove ∷ [])) where
+  stop_all : (stop : Stop) → P (moves_after_stop stop)
+  stop_all (Cut n) = power
+  stop_all stop = none
+
+  pub then_all : (stop : Stop) (ending : CallEnding) → P (moves_after_call stop ending)
+  then_all stop (Breaks fault kept) = stop_all stop
+  then_all stop ending = none
+
+  pub closing_all : (stop : Stop) (closing : CheckpointEnding) → P (moves_after_checkpoint stop closing)
+  closing_all stop (Stops fault closed) = stop_all stop
+  closing_all stop closing = none
+
+-- A schedule gives the same by digests as by lists: one induction over events, for both variants.
 
 -- What is asked of a call of an event: the values of others are among those told, the batch is asked, the messages of a right offer,
 -- which names a position, are listed, and those of the moves.

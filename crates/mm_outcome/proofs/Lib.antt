@@ -1,13 +1,8 @@
 pub mod Above
 mod Below
-mod Parts
-mod RightOffers
-mod FrontRuns
 mod Following
+mod MetPremises
+mod FirstBytes
 mod Expecting
-mod EachWay
-mod Running
 mod Counting
 mod Naming
-mod FirstBytes
-mod MetPremises

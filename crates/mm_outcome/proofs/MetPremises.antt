@@ -1,4 +1,20 @@
--- The premises of the laws are met: by a run of one request in Basic, and by one of three in Opt, with a segment closed between them.
+-- The premises of the laws are met: by a run of one request in Basic, and by one of three in Opt,
+-- with a segment closed between them. With it: what a right offer says.
+use Rattle.std.proofs.lemmas.Slice.Eq.{bytes_eq-Decides}
+use Rattle.mm_bytes.specs.Limits.{limit_of}
+use Rattle.mm_digest.specs.LengthLaws.{length-zero_bytes}
+use Rattle.mm_digest.specs.Messages.{start_digest_of, zero_bytes, extended_digest_of}
+use Rattle.mm_seal.specs.FieldLaws.{sealed_once}
+use Rattle.mm_seal.specs.Snapshot.{IsPlace, sealed_snapshot_of, snapshot_front}
+use Rattle.mm_seal.specs.declared.snapshot.Place.{Place}
+use Rattle.mm_seal.specs.declared.snapshot.Place.TheVariants.{Basic as InBasic}
+use Rattle.mm_model.specs.BatchLaws.{total-append}
+use Rattle.mm_model.specs.Chains.{anchor_of, register_of}
+use Rattle.mm_model.specs.ListLaws.{length-anchor_of, length-register_of, length-summary_of}
+use Rattle.mm_model.specs.Standing.{at_anchor, in_closed, in_current, IsPlaceOf, IsRight}
+use Rattle.mm_model.specs.declared.refusal.Refusal.TheVariants as refusal
+use Rattle.mm_call.specs.OfferLaws.{basic_content, issued_once, listed_by, right_of, opt_content, right_is}
+use Rattle.mm_outcome.specs.Laws.{IsIssued}
 use Rattle.mm_outcome.proofs.Below.{ℕ, ◌≡◌, Bool, true, false, List, [], ◌∷◌, ◌++◌, refl, subst, arith, Contains, Basic, Opt, Batch}
 use Rattle.mm_outcome.proofs.Below.{counter, counter_is_lawful, Meaning, link_message, Instance, basic_instance, opt_instance, History}
 use Rattle.mm_outcome.proofs.Below.{first_history, AreMessagesIn, offer_messages, NamesPosition, anchor_after, content_of_issue, IsGenuine}
@@ -14,17 +30,12 @@ use Rattle.mm_outcome.proofs.Below.{reads_zero, opt_issued, CallOutcome, call_ou
 use Rattle.mm_outcome.proofs.Below.{finding_with, check_by_tests, Outcome, outcome_of_events, event_outcome, outcome_by, outcome_by_lists}
 use Rattle.mm_outcome.proofs.Below.{first_snapshots, world_barrier, two_segments, after_two_segments, moves_of, event_messages}
 use Rattle.mm_outcome.proofs.Below.{messages_from, IsGenuineEvent, AreGenuine, each_at, Option, Some, offered_bytes, ask_event_outcome}
-use Rattle.mm_outcome.proofs.Below.{IsGenuineOffer}
-use Rattle.mm_outcome.proofs.Parts.{ask_moves, asking_messages}
-use Rattle.mm_digest.specs.Messages.{start_digest_of, zero_bytes, extended_digest_of}
-use Rattle.mm_model.specs.Chains.{anchor_of, register_of}
+use Rattle.mm_outcome.proofs.Below.{IsGenuineOffer, length, get_or, Variant, state_after}
 use Rattle.mm_outcome.proofs.FirstBytes.{basic_clear, basic_listed, basic_messages, clear_within, five, guard_first, AreListed, five_guard}
-use Rattle.mm_outcome.proofs.FirstBytes.{once, twice, ff_bytes, segment_messages, segments_clear, segments_listed}
-use Rattle.mm_call.specs.OfferLaws.{basic_content, issued_once, listed_by, right_of, opt_content}
-use Rattle.std.proofs.lemmas.Slice.Eq.{bytes_eq-Decides}
-use Rattle.mm_outcome.proofs.FrontRuns.{clear_fronts, genuine_fronts}
+use Rattle.mm_outcome.proofs.FirstBytes.{once, twice, ff_bytes, segment_messages, segments_clear, segments_listed, clear_fronts}
+use Rattle.mm_outcome.proofs.FirstBytes.{genuine_fronts}
+use Rattle.mm_outcome.proofs.Following.{ask_moves, asking_messages}
 use Rattle.mm_outcome.proofs.Naming.{Lasts, opt_made}
-use Rattle.mm_model.specs.declared.refusal.Refusal.TheVariants as refusal
 
 -- what is asked of the snapshot of a history
 right_within : (i : Instance) (y : History) (b : Batch) (all : List (List ℕ)) → IsContent (content_of_issue i y)
@@ -314,3 +325,49 @@ opt_met key =
     let i = opt_instance counter key world_barrier in
     let later : List Event = five_asked ∷ Checkpoint [] Quiet ∷ Extend ff_bytes ∷ five_asked ∷ [] in
     (clear_fronts i one_ask later (segments_met key).0, genuine_fronts i one_ask later (segments_met key).1)
+
+-- What a right offer says; and that an issued snapshot, as a right offer, names a position.
+
+pub said_of : (i : Instance) (bytes : List ℕ) (content : Content) → IsRight i bytes content → right_content i bytes ≡ Some content
+said_of i bytes content right =
+    let parts : parts_of i.variant i.meaning.id bytes ≡ Ok (offered_snapshot_of i.key content) =
+    ap (parts_of i.variant i.meaning.id) right.sealed
+    ∙ sealed_parts i.key content i.variant i.meaning.id right.formed right.variant right.id in
+    right_is i (parts_of i.variant i.meaning.id bytes) (offered_snapshot_of i.key content) parts right.state
+    ((bytes_eq-Decides (tag_of i.key content) (tag_of i.key content)).1 refl)
+
+-- What names a position is formed.
+
+place_sized : (variant : Variant) (i : Instance) (y : History) (named : List Batch) (place : Place) → IsPlaceOf variant i y named place
+    → IsPlace place
+place_sized Basic i y named (InBasic s) p = ap length p ∙ length-summary_of i.meaning.id named
+place_sized Opt i y named (InOpt a e) (at_anchor p) =
+    (ap length p.anchor_is ∙ length-anchor_of i.meaning.id _, ap length p.extension_is ∙ length-zero_bytes)
+place_sized Opt i y named (InOpt a e) (in_closed p) =
+    (ap length p.anchor_is ∙ length-anchor_of i.meaning.id _, ap length p.extension_is ∙ length-register_of _)
+place_sized Opt i y named (InOpt a e) (in_current p) =
+    (ap length p.anchor_is ∙ length-anchor_of i.meaning.id _, ap length p.extension_is ∙ length-register_of _)
+place_sized _ i y named place p = absurd p
+
+-- the module's id stands at a fixed place
+same_id : (key other : List ℕ) (x z : Content) → sealed_snapshot_of key x ≡ sealed_snapshot_of other z → x.id ≡ z.id
+unfolding sealed_snapshot_of snapshot_front
+same_id key other x z e = ap (λ (xs : List ℕ). get_or xs 5 0) e
+
+formed_by : (i : Instance) (y : History) (content : Content) → IsLawful i.meaning → total_of y.batches ≤ last_position
+    → content.id ≡ i.meaning.id → NamesPosition i y content → IsContent content
+formed_by i y content lawful few id n = record {
+  place = place_sized i.variant i y n.named content.place n.place;
+  position = omega (arith, n.position, few, ap total_of n.first, total-append n.named n.rest);
+  state = subst (λ (m : ℕ). length content.state ≤ limit_of m) (sym id)
+      (subst (λ (s : List ℕ). length s ≤ limit_of i.meaning.id) (sym n.state)
+      (lawful.fits (state_after i.meaning (requests_of n.named)) (state_after-is_spelled i.meaning lawful (requests_of n.named))));
+}
+
+pub issued_names : (i : Instance) (y : History) → IsLawful i.meaning → total_of y.batches ≤ last_position → (bytes : List ℕ)
+    (content : Content) → IsIssued i y bytes → IsRight i bytes content → NamesPosition i y content
+issued_names i y lawful few bytes content s right =
+    let id : s.content.id ≡ i.meaning.id = same_id i.key i.key s.content content (sym s.sealed ∙ right.sealed) ∙ right.id in
+    let formed : IsContent s.content = formed_by i y s.content lawful few id s.names in
+    let same : s.content ≡ content = sealed_once i.key i.key s.content content formed right.formed (sym s.sealed ∙ right.sealed) in
+    subst (λ (x : Content). NamesPosition i y x) same s.names

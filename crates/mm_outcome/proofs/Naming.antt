@@ -13,7 +13,7 @@ use Rattle.mm_outcome.proofs.Below.{unlacked, opt_closes, closed_kept, AllMay, m
 use Rattle.mm_outcome.proofs.Below.{Outcome, course_of, snapshots_of, moves_after_call, outcome_by, moves_after_checkpoint, event_outcome}
 use Rattle.mm_outcome.proofs.Below.{RunOutcome, outcome_of_events, first_snapshots, IsIssued, IssuedNamePositions, IsSoundIn, KeepsNames}
 use Rattle.mm_outcome.proofs.Below.{EventsKeepNames, AreOwn, instance_by, zero_bytes}
-use Rattle.mm_outcome.proofs.EachWay.{in_any_way, then_all, closing_all}
+use Rattle.mm_outcome.proofs.Following.{in_any_way, then_all, closing_all}
 
 -- from one history to another, whichever snapshots were issued
 pub record Lasts (i : Instance) (y z : History) : Type 0 where

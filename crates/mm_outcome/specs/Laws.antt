@@ -4,8 +4,8 @@ use Rattle.std.specs.List.{AllByRecursion}
 use Rattle.mm_outcome.specs.Below.{Content, sealed_snapshot_of, Quiet, One, Meaning, History, Own, requests_of, Instance, basic_instance}
 use Rattle.mm_outcome.specs.Below.{opt_instance, Digests, NamesPosition, list_level, digest_level, DigestsAgree, Event, Ask, Checkpoint}
 use Rattle.mm_outcome.specs.Below.{Extend, IsEventRun, Last}
-use Rattle.mm_outcome.specs.Folds.{RunOutcome, outcome_of_events, outcome_by_lists, outcome_by_digests}
-use Rattle.mm_outcome.specs.Premises.{messages_from, IsClearRun, IsGenuineRun}
+use Rattle.mm_outcome.specs.Premises.{RunOutcome, outcome_of_events, outcome_by_lists, outcome_by_digests, messages_from, IsClearRun}
+use Rattle.mm_outcome.specs.Premises.{IsGenuineRun}
 
 -- Two followings give the same replies, issue the same snapshots and call as many steps and writes;
 -- and the digests at the end are those of the history.

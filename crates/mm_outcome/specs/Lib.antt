@@ -1,9 +1,5 @@
 pub mod Below
 pub mod EventOffers
-pub mod OfferedBytes
-pub mod Folds
 pub mod Premises
-pub mod WorldState
-pub mod Laws
 pub mod OneRun
-pub mod OneEvent
+pub mod Laws

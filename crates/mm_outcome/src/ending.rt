@@ -1,7 +1,7 @@
 //! How a reply names the end of a call.
 
 ghost use Rattle.std.specs.Prelude.{◌≡◌};
-ghost use Rattle.mm_outcome.specs.Folds.{way_of, cause_of};
+ghost use Rattle.mm_outcome.specs.Premises.{way_of, cause_of};
 
 use mm_model::Refusal;
 use mm_platform::Stop;

@@ -1,11 +1,10 @@
 //! The key and the barrier of each world in memory.
 
 ghost use Rattle.std.specs.Prelude.{◌≡◌, ◌≤◌};
-ghost use Rattle.mm_outcome.specs.WorldState.{rising_bytes_from};
-ghost use Rattle.mm_outcome.specs.WorldState.{world_key, world_barrier};
+ghost use Rattle.mm_outcome.specs.OneRun.{rising_bytes_from, world_key, world_barrier};
 
 /// The key: the bytes 00 to 1f.
-#[tactic(auto, unfolding(crate::specs::WorldState::rising_bytes_from))]
+#[tactic(auto, unfolding(crate::specs::OneRun::rising_bytes_from))]
 pub fn world_key() -> [u8; 32]
     ensures { result ≡ world_key }
 {
@@ -16,7 +15,7 @@ pub fn world_key() -> [u8; 32]
 }
 
 /// The barrier: the bytes 20 to 3f.
-#[tactic(auto, unfolding(crate::specs::WorldState::rising_bytes_from))]
+#[tactic(auto, unfolding(crate::specs::OneRun::rising_bytes_from))]
 pub fn world_barrier() -> [u8; 32]
     ensures { result ≡ world_barrier }
 {

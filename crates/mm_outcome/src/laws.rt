@@ -2,18 +2,13 @@
 
 ghost use Rattle.std.specs.Prelude.{◌≡◌, ◌++◌, ℕ, List};
 ghost use Rattle.mm_digest.specs.declared.variant.Variant.{Variant};
-ghost use Rattle.mm_module.specs.Meaning.{Meaning};
-ghost use Rattle.mm_module.specs.CounterTable.{counter};
-ghost use Rattle.mm_model.specs.Instance.{Instance};
-ghost use Rattle.mm_model.specs.InstanceWords.{basic_instance, opt_instance};
+ghost use Rattle.mm_module.specs.Meaning.{Meaning, counter};
+ghost use Rattle.mm_model.specs.Chains.{Instance, basic_instance, opt_instance};
 ghost use Rattle.mm_call.specs.Standing.{instance_by};
-ghost use Rattle.mm_outcome.specs.WorldState.{world_barrier};
-ghost use Rattle.mm_outcome.specs.Folds.{outcome_by_lists};
-ghost use Rattle.mm_outcome.specs.Premises.{IsClearRun, IsGenuineRun};
+ghost use Rattle.mm_outcome.specs.OneRun.{world_barrier, FrontsAreOneRun, EventsAgree, EventsStep, EventsKeepNames};
+ghost use Rattle.mm_outcome.specs.Premises.{outcome_by_lists, IsClearRun, IsGenuineRun};
 ghost use Rattle.mm_outcome.specs.Laws.{BasicIsExpected, OptIsExpected, ExpectedRuns, SchedulesGoOn, IssuedNamePositions, one_ask, two_segments, after_two_segments};
-ghost use Rattle.mm_outcome.specs.OneRun.{FrontsAreOneRun};
 ghost use Rattle.mm_schedule.specs.Events.{Event};
-ghost use Rattle.mm_outcome.specs.OneEvent.{EventsAgree, EventsStep, EventsKeepNames};
 
 /// A schedule of Basic is told as expected, where no two messages of the run share a digest and
 /// each right offer names a position.

@@ -2,8 +2,7 @@
 
 ghost use Rattle.std.specs.Prelude.{◌≡◌, ◌∷◌, ◌++◌, IfOk, slice_get, option_copied};
 ghost use Rattle.std.specs.Option.{option_map};
-ghost use Rattle.mm_outcome.specs.EventOffers.{offered_bytes, bytes_with_flipped_bit};
-ghost use Rattle.mm_outcome.specs.OfferedBytes.{bytes_in};
+ghost use Rattle.mm_outcome.specs.EventOffers.{offered_bytes, bytes_with_flipped_bit, bytes_in};
 
 use mm_bytes::{Bytes, Memory};
 use mm_schedule::Offer;

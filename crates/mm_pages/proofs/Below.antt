@@ -12,22 +12,21 @@ pub use Rattle.std.proofs.lemmas.List.{append-nil, drop-drop, drop-replicate, dr
 pub use Rattle.std.proofs.lemmas.List.{get_or-take, get_or_append_left, get_or_past, length-replicate, length-take, length-take-le}
 pub use Rattle.std.proofs.lemmas.List.{set_split}
 pub use Rattle.std.proofs.lemmas.Result.{err_from_is_err_and}
-pub use Rattle.mm_bytes.specs.Faults.{next_count, CountRose}
+pub use Rattle.mm_bytes.specs.Limits.{next_count, CountRose}
 pub use Rattle.mm_bytes.specs.declared.fault.Failed.{Failed}
 pub use Rattle.mm_digest.specs.declared.digest.Digest.{Digest}
-pub use Rattle.mm_store.specs.Calls.{slots_with_bytes, CountsFailures, ReadsSlot, WritesSlot}
+pub use Rattle.mm_store.specs.StoreStanding.{slots_with_bytes, CountsFailures, ReadsSlot, WritesSlot, longest_slot, slot_front, slot_in}
+pub use Rattle.mm_store.specs.StoreStanding.{Slots, slots_with, unsynced_slots_with_mark, MarksSlotAlone, UnsyncedSlots}
 pub use Rattle.mm_store.specs.declared.fault.StoreFault.{StoreFault}
 pub use Rattle.mm_store.specs.declared.fault.StoreFault.TheVariants.{Failed as SlotFailed}
-pub use Rattle.mm_store.specs.Slots.{longest_slot, slot_front, slot_in, Slots, slots_with}
-pub use Rattle.mm_store.specs.UnsyncedSlots.{unsynced_slots_with_mark, MarksSlotAlone, UnsyncedSlots}
 pub use Rattle.mm_store.proofs.Above.{longest_slot-is, marked_last, marks_alone, putting-twice, slot_in-with_slot, take-min, with_slot-same}
-pub use Rattle.mm_pages.specs.Bytes.{page_count, page_of, resized_bytes, bytes_with_page}
+pub use Rattle.mm_pages.specs.Rows.{page_count, page_of, resized_bytes, bytes_with_page, change_count, changes_of, count_after_so_many}
+pub use Rattle.mm_pages.specs.Rows.{look_count, total_of_looks, may_be_same, one_if, DropsPage, row_with_digest, kept_digest, page_digest}
+pub use Rattle.mm_pages.specs.Rows.{digests_of_pages, row_in, Rows, rows_with}
 pub use Rattle.mm_pages.specs.CachedDevice.{AreInStep, CachedDevice, KeepsStep}
-pub use Rattle.mm_pages.specs.Calls.{slots_with_change, ReadsLength, ReadsPage, SetsLength, SyncsPages, WritesPage}
-pub use Rattle.mm_pages.specs.Counts.{change_count, changes_of, count_after_so_many, look_count, total_of_looks, may_be_same, one_if}
-pub use Rattle.mm_pages.specs.PageStanding.{store_standing_on, PageStanding}
-pub use Rattle.mm_pages.specs.Renewal.{ReadGoes, ReadsRenewed, RenewsIfDue, WriteGoes, WritesRenewed}
-pub use Rattle.mm_pages.specs.Sheets.{bytes_left, sheets_after_call, sheets_after_slot_fault, standing_of_sheets, Sheets}
-pub use Rattle.mm_pages.specs.SlotWrites.{AreDigestsOf, ChangesSlot, EndsInSync, WriteFails, SlotFails, FitsSlot, FitsAndSyncs, HoldsPage}
-pub use Rattle.mm_pages.specs.SlotWrites.{IsFilled, IsInStep, IsPutAt, PutsBytes, PutsFirstPages, PutsOnePage, PutsWholeSlot}
-pub use Rattle.mm_pages.specs.Rows.{DropsPage, row_with_digest, kept_digest, page_digest, digests_of_pages, row_in, Rows, rows_with}
+pub use Rattle.mm_pages.specs.PageStanding.{slots_with_change, ReadsLength, ReadsPage, SetsLength, SyncsPages, WritesPage}
+pub use Rattle.mm_pages.specs.PageStanding.{store_standing_on, PageStanding, bytes_left, sheets_after_call, sheets_after_slot_fault}
+pub use Rattle.mm_pages.specs.PageStanding.{standing_of_sheets, Sheets}
+pub use Rattle.mm_pages.specs.SlotWrites.{ReadGoes, ReadsRenewed, RenewsIfDue, WriteGoes, WritesRenewed, AreDigestsOf, ChangesSlot}
+pub use Rattle.mm_pages.specs.SlotWrites.{EndsInSync, WriteFails, SlotFails, FitsSlot, FitsAndSyncs, HoldsPage, IsFilled, IsInStep, IsPutAt}
+pub use Rattle.mm_pages.specs.SlotWrites.{PutsBytes, PutsFirstPages, PutsOnePage, PutsWholeSlot}

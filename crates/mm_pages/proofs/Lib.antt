@@ -1,10 +1,4 @@
 mod Below
 mod BytesLaws
-mod RowLaws
-mod CountLaws
-mod PageLaws
-mod WritingLaws
-mod ReadingLaws
-mod StepLaws
 mod RenewalLaws
-mod SheetLaws
+mod WritingLaws

@@ -7,11 +7,9 @@ use Rattle.mm_pages.proofs.Below.{page_count, PageStanding, ReadsLength, SyncsPa
 use Rattle.mm_pages.proofs.Below.{look_count, total_of_looks, change_count, changes_of, one_if, Rows, row_in, rows_with, kept_digest}
 use Rattle.mm_pages.proofs.Below.{page_digest, row_with_digest, digests_of_pages, IsPutAt, SlotFails, WriteFails, ChangesSlot, PutsOnePage}
 use Rattle.mm_pages.proofs.Below.{IsFilled, PutsFirstPages, FitsSlot, FitsAndSyncs, EndsInSync, PutsWholeSlot, PutsBytes}
-use Rattle.mm_pages.proofs.BytesLaws.{get_or-page_of, page_of-same, resized-same, resized-length}
-use Rattle.mm_pages.proofs.RowLaws.{row_in-with_row, with_row-twice, with_row-same, keeping-next, kept_of-next, length-digests_of}
-use Rattle.mm_pages.proofs.RowLaws.{take-digests_of}
-use Rattle.mm_pages.proofs.CountLaws.{count_after_so_many-add, changes_of-same}
-use Rattle.mm_pages.proofs.PageLaws.{changed, stays, left_by, slots_stay}
+use Rattle.mm_pages.proofs.BytesLaws.{get_or-page_of, page_of-same, resized-same, resized-length, count_after_so_many-add, changes_of-same}
+use Rattle.mm_pages.proofs.RenewalLaws.{row_in-with_row, with_row-twice, with_row-same, keeping-next, kept_of-next, length-digests_of}
+use Rattle.mm_pages.proofs.RenewalLaws.{take-digests_of, changed, stays, left_by, slots_stay}
 
 -- no page yet
 pub puts_none : (slot : ℕ) (bytes : List ℕ) (paged : PageStanding) (rows : Rows) → PutsFirstPages slot 0 bytes paged paged rows rows

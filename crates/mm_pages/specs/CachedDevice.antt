@@ -2,11 +2,9 @@
 use Rattle.std.specs.Prelude.{◌≡◌, ℕ, true, false, List, [], length, Some, Result, Ok, Err}
 use Rattle.mm_store.specs.declared.fault.StoreFault.{StoreFault}
 use Rattle.mm_store.specs.declared.fault.StoreFault.TheVariants.{Memory, Failed}
-use Rattle.mm_store.specs.Slots.{Slots}
-use Rattle.mm_store.specs.UnsyncedSlots.{UnsyncedSlots, unsynced_slots_with}
-use Rattle.mm_pages.specs.Bytes.{page_count}
+use Rattle.mm_store.specs.StoreStanding.{Slots, UnsyncedSlots, unsynced_slots_with}
+use Rattle.mm_pages.specs.Rows.{page_count, Rows, rows_with, digests_of_pages}
 use Rattle.mm_pages.specs.PageStanding.{PageStanding}
-use Rattle.mm_pages.specs.Rows.{Rows, rows_with, digests_of_pages}
 use Rattle.mm_pages.specs.SlotWrites.{AreDigestsOf}
 
 -- the device, the digests that are kept of its pages, and which slots are due to be renewed before

@@ -1,10 +1,4 @@
-pub mod Bytes
-pub mod PageStanding
-pub mod Calls
-pub mod Counts
 pub mod Rows
+pub mod PageStanding
 pub mod SlotWrites
-pub mod SlotReads
-pub mod Renewal
 pub mod CachedDevice
-pub mod Sheets

@@ -1,10 +1,33 @@
--- The digests that are kept of the pages of each slot.
-use Rattle.std.specs.Prelude.{◌≡◌, length, ℕ, ◌==◌, ◌+◌, zero, suc, List, [], ◌∷◌, ◌++◌, take, drop, slice_index_or, Option, Some, None}
-use Rattle.std.specs.Prelude.{if◌then◌else◌}
+-- The digests that are kept of the pages of each slot. With it: bytes by pages of 256; which pages
+-- a write reads back, and which it writes.
+use Rattle.std.specs.Prelude.{ℕ, ◌+◌, ◌-◌, ◌*◌, ◌/◌, List, ◌++◌, length, take, drop, replicate, ◌≡◌, ◌==◌, zero, suc, [], ◌∷◌}
+use Rattle.std.specs.Prelude.{slice_index_or, Option, Some, None, if◌then◌else◌, Bool, true}
+use Rattle.std.specs.Str.{bytes_eq}
 use Rattle.sha2.specs.Sha256.{sha256}
+use Rattle.mm_bytes.specs.Limits.{next_count}
 use Rattle.mm_digest.specs.declared.digest.Digest.{Digest}
-use Rattle.mm_store.specs.Four.{Four}
-use Rattle.mm_pages.specs.Bytes.{page_of}
+use Rattle.mm_store.specs.StoreStanding.{Four}
+
+-- Bytes by pages of 256.
+
+-- the bytes cut to this length, or filled up to it with zero bytes
+unfoldable pub resized_bytes : ℕ → List ℕ → List ℕ
+resized_bytes size bytes = take size bytes ++ replicate (size - length bytes) 0
+
+-- the 256 bytes of a page; those past the end are zero
+unfoldable pub page_of : List ℕ → ℕ → List ℕ
+page_of bytes page = resized_bytes 256 (drop (256 * page) bytes)
+
+-- the bytes with a page's put in place; a hole before it is filled with zero bytes
+unfoldable pub bytes_with_page : ℕ → List ℕ → List ℕ → List ℕ
+bytes_with_page page part bytes = resized_bytes (256 * page) bytes
+    ++ (part ++ drop (256 * page + 256) bytes)
+
+-- how many pages that many bytes fill
+abbrev pub page_count : ℕ → ℕ
+page_count size = (size + 255) / 256
+
+-- The digests that are kept of the pages of each slot.
 
 -- for each slot the digests of its first pages, each kept or not; of all later pages none is kept
 pub record Rows : Type 0 where
@@ -58,3 +81,39 @@ pub record DropsPage (slot page : ℕ) (old new : Rows) : Type 0 where
   pub len : length row ≡ length (row_in old slot)
   pub before : take page row ≡ take page (row_in old slot)
   pub after : drop (page + 1) row ≡ drop (page + 1) (row_in old slot)
+
+-- Which pages a write reads back, and which it writes.
+
+-- the count after so many more
+abbrev pub count_after_so_many : ℕ → ℕ → ℕ
+count_after_so_many zero count = count
+count_after_so_many (suc n) count = next_count (count_after_so_many n count)
+
+-- the digest kept of a page, if any, doesn't tell it from a page with this digest: it is read back
+abbrev pub may_be_same : Option Digest → Digest → Bool
+may_be_same None digest = true
+may_be_same (Some kept) digest = bytes_eq kept.bytes digest.bytes
+
+abbrev pub one_if : Bool → ℕ
+one_if b = if b then 1 else 0
+
+-- 1 where the page is read back before these bytes are put there
+abbrev pub look_count : List (Option Digest) → ℕ → List ℕ → ℕ
+look_count row page part = one_if (may_be_same (kept_digest row page) (page_digest part))
+
+-- how many of the first pages of these bytes are read back: those of which no digest is kept, or
+-- that of the new page
+abbrev pub total_of_looks : List (Option Digest) → List ℕ → ℕ → ℕ
+total_of_looks row bytes zero = 0
+total_of_looks row bytes (suc count) = look_count row count (page_of bytes count)
+    + total_of_looks row bytes count
+
+-- 1 where the page is another
+abbrev pub change_count : List ℕ → List ℕ → ℕ
+change_count was part = if bytes_eq was part then 0 else 1
+
+-- how many of the first pages of these bytes differ from what was there
+abbrev pub changes_of : List ℕ → List ℕ → ℕ → ℕ
+changes_of was bytes zero = 0
+changes_of was bytes (suc count) =
+    change_count (page_of was count) (page_of bytes count) + changes_of was bytes count

@@ -1,18 +1,22 @@
--- What the steps of a write do to a device of pages and to the digests that are kept.
+-- What the steps of a write do to a device of pages and to the digests that are kept. With it: what
+-- the steps of a read do to a device of pages, and what they give; a slot is renewed before it is
+-- used, where that is due.
 use Rattle.std.specs.Prelude.{◌≡◌, ◌⊎◌, ◌<◌, ◌≤◌, ◌+◌, ◌*◌, ℕ, Bool, true, false, ◌&&◌, List, ◌++◌, drop, length, slice_index, Option, Some}
-use Rattle.std.specs.Prelude.{Result, Ok, Err, IfOk}
+use Rattle.std.specs.Prelude.{Result, Ok, Err, IfOk, take, OnOk}
+use Rattle.std.specs.Result.{is_err}
 use Rattle.std.specs.Str.{bytes_eq}
+use Rattle.mm_bytes.specs.Limits.{next_count, CountRose, CountsFaults}
 use Rattle.mm_bytes.specs.declared.fault.Failed.{Failed}
-use Rattle.mm_bytes.specs.Faults.{next_count, CountRose, CountsFaults}
 use Rattle.mm_digest.specs.declared.digest.Digest.{Digest}
-use Rattle.mm_store.specs.Slots.{Slots, slot_in}
-use Rattle.mm_store.specs.UnsyncedSlots.{unsynced_slots_with_mark, MarksSlotAlone}
-use Rattle.mm_store.specs.Calls.{slots_with_bytes}
-use Rattle.mm_pages.specs.Bytes.{resized_bytes, page_of, page_count}
-use Rattle.mm_pages.specs.Calls.{slots_with_change, SyncsPages}
-use Rattle.mm_pages.specs.PageStanding.{PageStanding}
-use Rattle.mm_pages.specs.Counts.{count_after_so_many, may_be_same, look_count, total_of_looks, change_count, changes_of, one_if}
-use Rattle.mm_pages.specs.Rows.{Rows, row_in, rows_with, kept_digest, page_digest, row_with_digest, digests_of_pages}
+use Rattle.mm_store.specs.StoreStanding.{Slots, slot_in, unsynced_slots_with_mark, MarksSlotAlone, slots_with_bytes, slot_front}
+use Rattle.mm_store.specs.StoreStanding.{CountsFailures, UnsyncedSlots, is_unsynced_in, unsynced_slots_with}
+use Rattle.mm_store.specs.declared.fault.StoreFault.{StoreFault}
+use Rattle.mm_store.specs.declared.fault.StoreFault.TheVariants.{Failed as SlotFailed}
+use Rattle.mm_store.specs.declared.store.TheConstants.{LONGEST_SLOT}
+use Rattle.mm_pages.specs.PageStanding.{slots_with_change, SyncsPages, PageStanding}
+use Rattle.mm_pages.specs.Rows.{resized_bytes, page_of, page_count, count_after_so_many, may_be_same, look_count, total_of_looks}
+use Rattle.mm_pages.specs.Rows.{change_count, changes_of, one_if, Rows, row_in, rows_with, kept_digest, page_digest, row_with_digest}
+use Rattle.mm_pages.specs.Rows.{digests_of_pages}
 
 -- the digest that is kept of a page, if any, is the digest of what is there
 abbrev pub IsInStep : List (Option Digest) → ℕ → List ℕ → Type 0
@@ -188,3 +192,85 @@ abbrev pub PutsBytes : ℕ → List ℕ → PageStanding → PageStanding → Ro
     → Type 0
 PutsBytes slot bytes old new rows after (Ok _) = PutsWholeSlot slot bytes old new rows after
 PutsBytes slot bytes old new rows after (Err _) = WriteFails slot old new rows after
+
+-- What the steps of a read do to a device of pages, and what they give.
+
+-- a read of a slot
+pub record GivesBytes (slot : ℕ) (old new : PageStanding)
+    (result : Result (List ℕ) StoreFault) : Type 0
+  where
+    pub same : new ≡ record old { faults = new.faults; page_reads = new.page_reads }
+    pub counted_faults : CountsFailures old.faults new.faults result
+    pub gives : IfOk result (λ bytes. (slots : Slots) → old.slots ≡ Some slots
+        → bytes ≡ slot_front slots slot)
+    pub short : IfOk result (λ bytes. length bytes ≤ LONGEST_SLOT)
+
+-- how many bytes a read of the slot gives
+pub record GivesSize (slot : ℕ) (old new : PageStanding) (result : Result ℕ Failed) : Type 0 where
+  pub same : new ≡ record old { faults = new.faults }
+  pub counted_faults : CountsFaults old.faults new.faults result
+  pub most : IfOk result (λ size. size ≤ LONGEST_SLOT)
+  pub gives : IfOk result (λ size. (slots : Slots) → old.slots ≡ Some slots
+      → size ≡ length (slot_front slots slot))
+
+-- the pages of a slot's first bytes
+pub record GivesPages (slot size : ℕ) (old new : PageStanding) (bytes : List ℕ)
+    (result : Result Unit StoreFault) : Type 0 where
+  pub same : new ≡ record old { faults = new.faults; page_reads = new.page_reads }
+  pub counted_faults : CountsFailures old.faults new.faults result
+  pub len : OnOk result (length bytes ≡ size)
+  pub gives : OnOk result ((slots : Slots) → old.slots ≡ Some slots
+      → size ≤ length (slot_in slots slot)
+      → bytes ≡ take size (slot_in slots slot))
+
+-- A slot is renewed before it is used, where that is due.
+
+-- which slots are doubtful once one of them was renewed, if it was
+abbrev pub doubtful_renewed : Bool → ℕ → Option UnsyncedSlots → Result Unit Failed
+    → Option UnsyncedSlots
+doubtful_renewed false slot marks result = marks
+doubtful_renewed true slot marks result = unsynced_slots_with_mark slot (is_err result) marks
+
+-- a slot is renewed once where it is due, and else nothing is done; it is due no more after Ok, and
+-- it is where that failed
+pub record RenewsIfDue (slot : ℕ) (due after : UnsyncedSlots) (old new : PageStanding)
+    (result : Result Unit Failed) : Type 0 where
+  pub same : new ≡ record old {
+    faults = new.faults;
+    renewals = count_after_so_many (one_if (is_unsynced_in due slot)) old.renewals;
+    doubtful = doubtful_renewed (is_unsynced_in due slot) slot old.doubtful result;
+  }
+  pub counted_faults : CountsFaults old.faults new.faults result
+  pub marks : after ≡ unsynced_slots_with due slot (is_err result)
+
+-- what comes behind it of a read: nothing where it failed
+abbrev pub ReadGoes : ℕ → PageStanding → PageStanding → Result Unit Failed
+    → Result (List ℕ) StoreFault → Type 0
+ReadGoes slot middle new (Ok _) result = GivesBytes slot middle new result
+ReadGoes slot middle new (Err _) result = (new ≡ middle) × (result ≡ Err SlotFailed)
+
+-- a read of a slot that is renewed first
+pub record ReadsRenewed (slot : ℕ) (due after : UnsyncedSlots) (old new : PageStanding)
+    (result : Result (List ℕ) StoreFault) : Type 0 where
+  pub middle : PageStanding
+  pub renewal : Result Unit Failed
+  pub renews : RenewsIfDue slot due after old middle renewal
+  pub goes : ReadGoes slot middle new renewal result
+
+-- what comes behind it of a write of these bytes
+abbrev pub WriteGoes : ℕ → List ℕ → PageStanding → PageStanding → Rows → Rows
+    → Result Unit Failed → Result Unit Failed → Type 0
+WriteGoes slot bytes middle new rows after (Ok _) result =
+    PutsBytes slot bytes middle new rows after result
+WriteGoes slot bytes middle new rows after (Err fault) result =
+    (new ≡ middle) × (after ≡ rows) × (result ≡ Err fault)
+
+-- a write to a slot that is renewed first
+pub record WritesRenewed (slot : ℕ) (bytes : List ℕ) (due after : UnsyncedSlots)
+    (old new : PageStanding)
+    (rows rows' : Rows)
+    (result : Result Unit Failed) : Type 0 where
+  pub middle : PageStanding
+  pub renewal : Result Unit Failed
+  pub renews : RenewsIfDue slot due after old middle renewal
+  pub goes : WriteGoes slot bytes middle new rows rows' renewal result

@@ -1,8 +1,7 @@
 //! A device of pages.
 
 ghost use Rattle.std.specs.Prelude.{◌<◌, ◌≤◌};
-ghost use Rattle.mm_pages.specs.PageStanding.{PageStanding};
-ghost use Rattle.mm_pages.specs.Calls.{ReadsLength, ReadsPage, WritesPage, SetsLength, SyncsPages, RenewsSlot};
+ghost use Rattle.mm_pages.specs.PageStanding.{PageStanding, ReadsLength, ReadsPage, WritesPage, SetsLength, SyncsPages, RenewsSlot};
 
 use mm_bytes::Failed;
 

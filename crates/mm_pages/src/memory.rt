@@ -1,12 +1,13 @@
 //! A device of pages in memory, which fails as it is told to and not otherwise.
 
 ghost use Rattle.std.specs.Prelude.{◌≡◌, ◌↔◌, ◌<◌, ◌≤◌, ◌+◌, ◌++◌, IsTrue, IsErr, [], true, false, OnOk, OnErr, IfOk, length, take, drop, if◌then◌else◌};
-ghost use Rattle.mm_bytes.specs.Faults.{next_count};
-ghost use Rattle.mm_store.specs.Slots.{slots_of, slot_in, slots_with};
-ghost use Rattle.mm_store.specs.UnsyncedSlots.{is_unsynced_in};
-ghost use Rattle.mm_pages.specs.Bytes.{resized_bytes, bytes_with_page};
-ghost use Rattle.mm_pages.specs.Calls.{ReadsLength, ReadsPage, WritesPage, SetsLength, SyncsPages, RenewsSlot};
-ghost use Rattle.mm_pages.specs.Sheets.{blank_sheets, standing_of_sheets, sheets_after_call, sheets_after_fault, sheets_after_slot_fault, sheets_after_read, sheets_after_change, sheets_after_sync, sheets_after_renewal, sheets_after_power_loss, lasting_with};
+ghost use Rattle.mm_bytes.specs.Limits.{next_count};
+ghost use Rattle.mm_store.specs.StoreStanding.{slots_of, slot_in, slots_with, is_unsynced_in};
+ghost use Rattle.mm_pages.specs.Rows.{resized_bytes, bytes_with_page};
+ghost use Rattle.mm_pages.specs.PageStanding.{ReadsLength, ReadsPage, WritesPage, SetsLength, SyncsPages, RenewsSlot, blank_sheets};
+ghost use Rattle.mm_pages.specs.PageStanding.{standing_of_sheets, sheets_after_call, sheets_after_fault, sheets_after_slot_fault};
+ghost use Rattle.mm_pages.specs.PageStanding.{sheets_after_read, sheets_after_change, sheets_after_sync, sheets_after_renewal};
+ghost use Rattle.mm_pages.specs.PageStanding.{sheets_after_power_loss, lasting_with};
 
 use crate::device::PageDevice;
 use crate::page::{PAGE, page_of};
@@ -61,7 +62,7 @@ impl Sheet {
     }
 
     // Cuts the bytes to this length, or fills them up to there with zero bytes.
-    #[tactic(auto, unfolding(crate::specs::Bytes::resized_bytes))]
+    #[tactic(auto, unfolding(crate::specs::Rows::resized_bytes))]
     fn resize(&mut self, size: usize)
         requires { size ≤ 1100032 }
         ensures { self.new ≡ resized_bytes size self.old }
@@ -125,9 +126,8 @@ pub struct MemPages {
 
 impl Model for MemPages {
     ghost use Rattle.std.specs.Prelude.{length, ◌≤◌};
-    ghost use Rattle.mm_store.specs.Slots.{slots_of};
-    ghost use Rattle.mm_store.specs.UnsyncedSlots.{unsynced_slots_of};
-    ghost use Rattle.mm_pages.specs.Sheets.{Sheets};
+    ghost use Rattle.mm_store.specs.StoreStanding.{slots_of, unsynced_slots_of};
+    ghost use Rattle.mm_pages.specs.PageStanding.{Sheets};
 
     ghost Value = { Sheets };
 

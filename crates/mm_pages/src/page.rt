@@ -1,7 +1,7 @@
 //! Pages of bytes.
 
 ghost use Rattle.std.specs.Prelude.{◌≡◌, ◌≤◌};
-ghost use Rattle.mm_pages.specs.Bytes.{page_of, page_count};
+ghost use Rattle.mm_pages.specs.Rows.{page_of, page_count};
 
 /// The bytes of a page.
 pub const PAGE: usize = 256;

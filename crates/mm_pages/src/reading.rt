@@ -2,9 +2,8 @@
 
 ghost use Rattle.std.specs.Prelude.{◌≡◌, ◌<◌, ◌≤◌, []};
 ghost use Rattle.mm_store.specs.declared.store.TheConstants.{LONGEST_SLOT};
-ghost use Rattle.mm_store.specs.UnsyncedSlots.{unsynced_slots_of};
-ghost use Rattle.mm_pages.specs.Renewal.{ReadsRenewed};
-ghost use Rattle.mm_pages.specs.SlotReads.{GivesBytes, GivesPages, GivesSize};
+ghost use Rattle.mm_store.specs.StoreStanding.{unsynced_slots_of};
+ghost use Rattle.mm_pages.specs.SlotWrites.{ReadsRenewed, GivesBytes, GivesPages, GivesSize};
 
 use crate::device::PageDevice;
 use crate::page::{PAGE, page_count};

@@ -1,8 +1,8 @@
 //! Renewing a slot before it is used.
 
 ghost use Rattle.std.specs.Prelude.{◌<◌};
-ghost use Rattle.mm_store.specs.UnsyncedSlots.{unsynced_slots_of};
-ghost use Rattle.mm_pages.specs.Renewal.{RenewsIfDue};
+ghost use Rattle.mm_store.specs.StoreStanding.{unsynced_slots_of};
+ghost use Rattle.mm_pages.specs.SlotWrites.{RenewsIfDue};
 
 use crate::device::PageDevice;
 use mm_bytes::Failed;

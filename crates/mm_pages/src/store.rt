@@ -2,14 +2,10 @@
 
 ghost use Rattle.std.specs.Prelude.{◌≡◌, ◌≢◌, ◌<◌, ◌≤◌, length, [], true, Some, Err, IfOk, OnOk, IsOk};
 ghost use Rattle.std.specs.Borrow.{Lends, sem};
-ghost use Rattle.mm_store.specs.Slots.{Slots, slot_in};
-ghost use Rattle.mm_store.specs.Calls.{ReadsSlot, WritesSlot};
-ghost use Rattle.mm_store.specs.UnsyncedSlots.{is_unsynced_in, unsynced_slots_with};
+ghost use Rattle.mm_store.specs.StoreStanding.{Slots, slot_in, ReadsSlot, WritesSlot, is_unsynced_in, unsynced_slots_with};
 ghost use Rattle.mm_store.specs.declared.store.TheConstants.{LONGEST_SLOT};
-ghost use Rattle.mm_pages.specs.Bytes.{page_count};
+ghost use Rattle.mm_pages.specs.Rows.{page_count, no_rows, row_in, rows_with, count_after_so_many, total_of_looks, changes_of, one_if};
 ghost use Rattle.mm_pages.specs.PageStanding.{store_standing_on};
-ghost use Rattle.mm_pages.specs.Rows.{no_rows, row_in, rows_with};
-ghost use Rattle.mm_pages.specs.Counts.{count_after_so_many, total_of_looks, changes_of, one_if};
 ghost use Rattle.mm_pages.specs.SlotWrites.{AreDigestsOf, IsOneMoreAtMost};
 ghost use Rattle.mm_pages.specs.CachedDevice.{all_due, due_after, rows_after_read, rows_after_write, KeepsDue, KeepsStep, UsesSurely};
 
@@ -37,7 +33,7 @@ pub struct PageStore<D: PageDevice + Drop> {
 }
 
 impl<D: PageDevice + Drop> Model for PageStore<D> {
-    ghost use Rattle.mm_store.specs.UnsyncedSlots.{unsynced_slots_of};
+    ghost use Rattle.mm_store.specs.StoreStanding.{unsynced_slots_of};
     ghost use Rattle.mm_pages.specs.CachedDevice.{CachedDevice};
 
     ghost Value = { CachedDevice D };

@@ -2,11 +2,9 @@
 
 ghost use Rattle.std.specs.Prelude.{◌≡◌, ◌<◌, ◌≤◌, length};
 ghost use Rattle.mm_store.specs.declared.store.TheConstants.{LONGEST_SLOT};
-ghost use Rattle.mm_store.specs.UnsyncedSlots.{unsynced_slots_of};
-ghost use Rattle.mm_pages.specs.Counts.{may_be_same};
-ghost use Rattle.mm_pages.specs.Renewal.{WritesRenewed};
-ghost use Rattle.mm_pages.specs.Rows.{row_in};
-ghost use Rattle.mm_pages.specs.SlotWrites.{HoldsPage, PutsPage, PutsAllPages, FitsLength, EndsInSync, PutsBytes};
+ghost use Rattle.mm_store.specs.StoreStanding.{unsynced_slots_of};
+ghost use Rattle.mm_pages.specs.Rows.{may_be_same, row_in};
+ghost use Rattle.mm_pages.specs.SlotWrites.{WritesRenewed, HoldsPage, PutsPage, PutsAllPages, FitsLength, EndsInSync, PutsBytes};
 
 use crate::device::PageDevice;
 use crate::digests::SlotDigests;

@@ -1,4 +1,3 @@
 pub mod Above
 mod Below
-mod LettingIn
 mod Telling

@@ -1,11 +1,17 @@
--- A device step leaves what it is told to leave.
+-- A device step leaves what it is told to leave. With it: letting in the values that are due at a
+-- step, one by one.
+use Rattle.std.specs.Option.{option_map}
+use Rattle.std.proofs.lemmas.Bool.Decides.{nat_tests}
+use Rattle.std.proofs.lemmas.List.Sums.{sum_by-le-sum_by}
+use Rattle.mm_platform.specs.declared.fault.StepFault.{StepFault}
+use Rattle.mm_platform.specs.declared.plan.Meddle.{Meddle}
+use Rattle.mm_platform.specs.Memory.{count_ahead}
+use Rattle.mm_platform.specs.Standing.{next_answer, is_next_made, spare_after, standing_after_step, outcome_of_acts, AreAlike, ActsAsTold}
+use Rattle.mm_platform.specs.Standing.{due_values}
 use Rattle.mm_platform.proofs.Below.{arith, ◌≡◌, Bool, Option, None, Some, List, [], ◌∷◌, refl, sym, ◌∙◌, ap, subst, is_none, if◌then◌else◌}
 use Rattle.mm_platform.proofs.Below.{Plan, Standing, plan_after, Act, items_beside, cell_after, items_after, fault_by_plan, is_made_by_plan}
-use Rattle.mm_platform.proofs.Below.{is_on_by_plan, values_by_plan, faults_after, StepGoes, known_plan}
-use Rattle.std.specs.Option.{option_map}
-use Rattle.mm_platform.specs.declared.fault.StepFault.{StepFault}
-use Rattle.mm_platform.specs.PlannedSteps.{next_answer, is_next_made, spare_after, standing_after_step, outcome_of_acts, AreAlike}
-use Rattle.mm_platform.specs.Calls.{ActsAsTold}
+use Rattle.mm_platform.proofs.Below.{is_on_by_plan, values_by_plan, faults_after, StepGoes, known_plan, ℕ, ◌+◌, ◌≤◌, ◌++◌, take, drop, map}
+use Rattle.mm_platform.proofs.Below.{cond, nat_lt, Item, foreign_item}
 
 -- what a step does, by the plan that it was told
 pub record IsAsTold (act : Act) (old new : Standing) (fault : Option StepFault) : Type 0 where
@@ -108,3 +114,25 @@ told_last act old new None step plan known =
 pub plan_then : (act : Act) (old new : Standing) (fault : Option StepFault) → StepGoes act old new fault
     → (plan : Plan) → old.plan ≡ Some plan → new.plan ≡ Some (plan_after plan)
 plan_then act old new fault step plan known = step.plan ∙ ap (option_map plan_after) known
+
+-- Letting in the values that are due at a step, one by one.
+
+-- the items and the room once the first meddles were looked at
+pub record LetsIn (items0 : List Item) (len0 capacity0 before step : ℕ) (meddles : List Meddle) (index : ℕ)
+    (items : List Item) (len capacity : ℕ) : Type 0 where
+  pub items_are : items ≡ items0 ++ map foreign_item (due_values step (take index meddles))
+  pub room : len + (count_ahead step (take index meddles) + count_ahead before (drop index meddles)) ≤ len0 + count_ahead before meddles
+  pub kept : capacity ≡ capacity0
+
+-- whether a step is still to come, as a number
+abbrev pub coming : ℕ → ℕ → ℕ
+coming at step = cond (nat_lt at step) 1 0
+
+coming-falls : (before step at : ℕ) → before ≤ step → coming step at ≤ coming before at
+coming-falls before step at h = grind (arith, nat_tests)
+
+-- at a later step no more meddles are ahead
+pub ahead-falls : (before step : ℕ) (meddles : List Meddle) → before ≤ step → count_ahead step meddles ≤ count_ahead before meddles
+ahead-falls before step meddles h =
+    sum_by-le-sum_by (λ m. coming step m.step) (λ m. coming before m.step) meddles
+    (λ m. coming-falls before step m.step h)

@@ -1,10 +1,3 @@
 pub mod Standing
-pub mod Steps
-pub mod Raw
-pub mod Entries
-pub mod PlannedSteps
-pub mod Calls
 pub mod Memory
-pub mod StandingWords
 pub mod CallLaws
-pub mod StepLaws

@@ -2,8 +2,8 @@
 
 ghost use Rattle.std.specs.Prelude.{◌≡◌, ◌≤◌, ℕ, List, Some, OnOk, OnErr, IfOk};
 ghost use Rattle.std.specs.Result.{result_err};
-ghost use Rattle.mm_platform.specs.Standing.{Item, Standing, item_values, register_after};
-ghost use Rattle.mm_platform.specs.Steps.{ReadCell, WriteCell, ReadRegister, ResetRegister, ExtendRegister, StepGoes, RoomGrows, PowerCycles};
+ghost use Rattle.mm_platform.specs.Standing.{Item, Standing, item_values, register_after, ReadCell, WriteCell, ReadRegister, ResetRegister};
+ghost use Rattle.mm_platform.specs.Standing.{ExtendRegister, StepGoes, RoomGrows, PowerCycles};
 
 use crate::fault::StepFault;
 use mm_bytes::{CELL_LENGTH, Memory};

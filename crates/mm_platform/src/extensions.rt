@@ -2,7 +2,7 @@
 
 ghost use Rattle.std.specs.Prelude.{◌≡◌, ◌+◌, ◌<◌, ◌≤◌, [], ◌∷◌, ◌++◌, OnOk, OnErr, vec_len, vec_capacity, count_by};
 ghost use Rattle.mm_platform.specs.Standing.{item_values, register_after};
-ghost use Rattle.mm_platform.specs.Entries.{item_of, items_of, is_own};
+ghost use Rattle.mm_platform.specs.Memory.{item_of, items_of, is_own};
 
 use mm_bytes::Memory;
 use mm_digest::{Digest, extended, zero};

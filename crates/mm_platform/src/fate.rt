@@ -2,7 +2,7 @@
 
 ghost use Rattle.std.specs.Prelude.{◌≡◌, false, Some, if◌then◌else◌};
 ghost use Rattle.std.specs.Result.{result_err};
-ghost use Rattle.mm_platform.specs.Steps.{fault_at, is_made_at, is_on_at, faults_after};
+ghost use Rattle.mm_platform.specs.Standing.{fault_at, is_made_at, is_on_at, faults_after};
 
 use crate::fault::StepFault;
 use crate::plan::Stop;

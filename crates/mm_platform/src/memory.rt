@@ -2,13 +2,12 @@
 
 ghost use Rattle.std.specs.Prelude.{◌≡◌, ◌+◌, ◌<◌, ◌≤◌, Some, None, [], ◌∷◌, ◌++◌, map, OnOk, OnErr, IfOk, Ok, count_by, vec_len, vec_capacity};
 ghost use Rattle.std.specs.Option.{option_map};
-ghost use Rattle.mm_bytes.specs.Faults.{next_count};
-ghost use Rattle.mm_platform.specs.Steps.{items_beside, values_by_plan};
-ghost use Rattle.mm_platform.specs.Standing.{Standing, Plan, foreign_item, next_step, plan_after, item_values, register_after};
-ghost use Rattle.mm_platform.specs.StandingWords.{due_values};
-ghost use Rattle.mm_platform.specs.Entries.{items_of, is_own};
-ghost use Rattle.mm_platform.specs.PlannedSteps.{quiet_plan, next_plan, standing_in_step, is_next_made, next_answer};
-ghost use Rattle.mm_platform.specs.Memory.{new_platform, count_ahead, plan_with_stop, plan_with_meddle, failing_plan, standing_after_cycle};
+ghost use Rattle.mm_bytes.specs.Limits.{next_count};
+ghost use Rattle.mm_platform.specs.Standing.{items_beside, values_by_plan, Standing, Plan, foreign_item, next_step, plan_after};
+ghost use Rattle.mm_platform.specs.Standing.{item_values, register_after, due_values, quiet_plan, next_plan, standing_in_step};
+ghost use Rattle.mm_platform.specs.Standing.{is_next_made, next_answer};
+ghost use Rattle.mm_platform.specs.Memory.{items_of, is_own, new_platform, count_ahead, plan_with_stop, plan_with_meddle, failing_plan};
+ghost use Rattle.mm_platform.specs.Memory.{standing_after_cycle};
 
 use crate::device::{Device, Nv, Platform, Register};
 use crate::extensions::{Entry, Extensions};

@@ -2,8 +2,8 @@
 
 ghost use Rattle.std.specs.Prelude.{◌≡◌, ◌≤◌, ◌+◌, ℕ, List, Some, OnOk, OnErr, length};
 ghost use Rattle.std.specs.Result.{result_err};
-ghost use Rattle.mm_platform.specs.Steps.{PowerCycles};
-ghost use Rattle.mm_platform.specs.Raw.{range_of, ReadsRaw, WritesRaw};
+ghost use Rattle.mm_platform.specs.Standing.{PowerCycles};
+ghost use Rattle.mm_platform.specs.Memory.{range_of, ReadsRaw, WritesRaw};
 
 use crate::device::Device;
 use crate::fault::StepFault;

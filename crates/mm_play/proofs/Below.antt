@@ -12,13 +12,11 @@ pub use Rattle.mm_base.specs.InputLaws.{tail_of-joined, tail_of-line, tail_of-un
 pub use Rattle.mm_bytes.specs.Limits.{longest_line, most_events}
 pub use Rattle.mm_base.specs.declared.replay_fault.ReplayFault.{ReplayFault}
 pub use Rattle.mm_base.specs.declared.replay_fault.ReplayFault.TheVariants.{BadLine, LineLong, Memory, ReadFault, TooMuch, WriteFault}
-pub use Rattle.mm_play.specs.Play.{outcome_after_bytes, outcome_of_both, outcome_of_answer, outcome_at_end, outcome_of_tail, outcome_then}
-pub use Rattle.mm_play.specs.Play.{refusal_at, outcome_of_lines, outcome_of_rest, outcome_of_input, stopped_outcome}
-pub use Rattle.mm_play.specs.Play.{PlayOutcome, play_outcome}
-pub use Rattle.mm_play.specs.PlaysInput.{HoldsOfWhole, IsUnrefused, PlaysInput, AnswerFits}
-pub use Rattle.mm_play.specs.Fronts.{IsFrontOf}
-pub use Rattle.mm_play.specs.TellsOutput.{AnswersAllLines, AnswersFirst, StopsAnywhere, StopsBeforeLine, AnswersWholeInput, RefusesMuch}
-pub use Rattle.mm_play.specs.TellsOutput.{TellsOutput}
+pub use Rattle.mm_play.specs.PlaysInput.{outcome_after_bytes, outcome_of_both, outcome_of_answer, outcome_at_end, outcome_of_tail}
+pub use Rattle.mm_play.specs.PlaysInput.{outcome_then, refusal_at, outcome_of_lines, outcome_of_rest, outcome_of_input, stopped_outcome}
+pub use Rattle.mm_play.specs.PlaysInput.{PlayOutcome, play_outcome, HoldsOfWhole, IsUnrefused, PlaysInput, AnswerFits, AnswersAllLines}
+pub use Rattle.mm_play.specs.PlaysInput.{AnswersFirst, StopsAnywhere, StopsBeforeLine, AnswersWholeInput, RefusesMuch, TellsOutput}
+pub use Rattle.mm_play.specs.Headline.{IsFrontOf}
 pub use Rattle.mm_play.specs.LineTurn.{TurnAdvances, PlayerAnswers, IsSent, TurnPlays, PlaysNext, SendsDue, SendsAndAnswers}
 pub use Rattle.mm_play.specs.declared.player.LineRefusal.{LineRefusal}
 pub use Rattle.mm_play.specs.declared.player.LineRefusal.TheVariants.{Bad, Much}

@@ -2,11 +2,9 @@
 use Rattle.mm_play.proofs.Below.{◌≡◌, ◌∙◌, ◌+◌, ◌≤◌, ◌<◌, ◌||◌, ℕ, Bool, true, false, nat_le, nat_lt, List, [], ◌∷◌, ◌++◌, length, map}
 use Rattle.mm_play.proofs.Below.{Result, Ok, Err, Option, None, Some, refl, sym, ap, subst, arith, inl, inr, ◌⊎◌, sum_by, nat_tests}
 use Rattle.mm_play.proofs.Below.{most_events, LineRefusal, Bad, Much, play_outcome, outcome_of_lines, AllByRecursion, longest_line}
-use Rattle.mm_play.specs.Counting.{same_answer, no_answer}
-use Rattle.mm_play.specs.KeptBytes.{most_kept_bytes}
+use Rattle.mm_play.specs.Headline.{same_answer, no_answer, most_kept_bytes}
 use Rattle.mm_play.specs.Stage.{EventStage, EventSteps, HeadStage, PlayState, play_state, LineStage, InEvents, is_over, event_answer}
-use Rattle.mm_play.specs.Stage.{line_answer, answer_by}
-use Rattle.mm_play.specs.StageShows.{state_behind_events, replies, TakesEvents}
+use Rattle.mm_play.specs.Stage.{line_answer, answer_by, state_behind_events, replies, TakesEvents}
 use Rattle.mm_play.proofs.Runs.{first_answered, none_answered}
 use Rattle.std.proofs.lemmas.List.Sums.{sum_by-append}
 

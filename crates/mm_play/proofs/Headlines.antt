@@ -5,16 +5,13 @@ use Rattle.mm_play.proofs.Below.{tail_of, joined_lines, ReplayFault, Memory, Rea
 use Rattle.mm_play.proofs.Below.{longest_line, LineRefusal, Bad, Much, play_outcome, outcome_of_lines, outcome_of_input, HoldsOfWhole}
 use Rattle.mm_play.proofs.Below.{AnswerFits, IsFrontOf}
 use Rattle.mm_base.specs.InputLaws.{joined-append}
-use Rattle.mm_play.specs.Counting.{same_answer, no_answer}
-use Rattle.mm_play.specs.HeadingStep.{HeadingStep, More, Begins}
-use Rattle.mm_play.specs.Headline.{EventPlayer, HeadingLeads, IsNextLine, IsOver, IsLeft, TextWentOut, AreAnswered}
+use Rattle.mm_play.specs.Headline.{same_answer, no_answer, HeadingStep, More, Begins, EventPlayer, HeadingLeads, IsNextLine, IsOver, IsLeft}
+use Rattle.mm_play.specs.Headline.{TextWentOut, AreAnswered}
 use Rattle.mm_play.specs.Stage.{EventStage, EventSteps, HeadStage, play_state, LineStage, AtHeading, InEvents, head_answer, line_answer}
-use Rattle.mm_play.specs.Stage.{closing_lines}
-use Rattle.mm_play.specs.StageShows.{heading_step_by, StageShows}
+use Rattle.mm_play.specs.Stage.{closing_lines, heading_step_by, StageShows}
 use Rattle.mm_play.proofs.Eventing.{AreShort, AnsweredEvents, IsOverIn, is_short, answered_events, much_over, bad_none}
-use Rattle.mm_play.proofs.Halting.{ComesTo, comes, comes_so, bad_at}
+use Rattle.mm_play.proofs.Telling.{ComesTo, comes, comes_so, bad_at, whole_input, unbroken_lines, unbroken_tail}
 use Rattle.mm_play.proofs.Runs.{first_answered, FirstAnswered, none_answered}
-use Rattle.mm_play.proofs.Splitting.{whole_input, unbroken_lines, unbroken_tail}
 
 lead_more : {G H : Type 0} (head : G → List ℕ → Option (HeadingStep G H)) (at next : G) (line : List ℕ) (lines : List (List ℕ))
     (to : HeadingStep G H)

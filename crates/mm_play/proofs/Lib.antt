@@ -2,11 +2,7 @@ pub mod Above
 mod Below
 mod Runs
 mod Turning
-mod Stands
+mod Stopped
 mod Telling
-mod Staging
-mod Splitting
-mod Halting
 mod Eventing
 mod Headlines
-mod Stopped

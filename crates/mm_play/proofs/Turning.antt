@@ -6,8 +6,8 @@ use Rattle.mm_play.proofs.Below.{TooMuch, longest_line, LineRefusal, refusal_at,
 use Rattle.mm_play.proofs.Below.{PlayerAnswers, TurnPlays, TurnAdvances, ◌≢◌, length, subst, append-nil, Appends-trans, Consumes-nil}
 use Rattle.mm_play.proofs.Below.{IsUnbroken, ReadFault, WriteFault, PlayOutcome, outcome_after_bytes, IsFrontOf, SendsDue, SendsAndAnswers}
 use Rattle.mm_play.proofs.Below.{IsSent, PlaysNext}
-use Rattle.mm_base.specs.Lines.{IsLineFront}
-use Rattle.mm_base.specs.ReadsNextLine.{ReadsNextLine}
+use Rattle.mm_base.specs.Input.{IsLineFront}
+use Rattle.mm_base.specs.Streams.{ReadsNextLine}
 use Rattle.mm_base.specs.declared.lines.LineFault.{LineFault}
 use Rattle.mm_base.specs.declared.lines.LineFault.TheVariants as fault
 use Rattle.mm_base.specs.declared.lines.Read.{Read}

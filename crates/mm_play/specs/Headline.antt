@@ -1,16 +1,82 @@
--- The headline of a command over events: which lines it answered, and by how it ended what is left
--- and what went out.
-use Rattle.std.specs.Prelude.{◌≡◌, ◌≢◌, ◌≤◌, ◌<◌, ℕ, ◌+◌, Bool, true, false, List, [], ◌∷◌, ◌++◌, length, map, Option, None, Some, Result, Ok, Err, ◌⊎◌}
+-- The headline of a command over events. With it: how much a command over events keeps; where the
+-- line of a heading leads; what the streams of a command tell; of an answer and a refusal; what a
+-- player did with a line; a reply that is put behind what stands there already.
 use Rattle.std.specs.Io.KnownBytes.{Appends, Consumes, IsAtEnd}
 use Rattle.std.specs.List.{AllByRecursion, sum_by}
-use Rattle.mm_base.specs.Input.{IsUnbroken, joined_lines}
+use Rattle.std.specs.Prelude.{ℕ, List, Option, ◌≡◌, Bool, true, false, ◌||◌, Result, Ok, Err, ◌++◌, ◌≢◌, ◌≤◌, ◌<◌, ◌+◌, [], ◌∷◌, length}
+use Rattle.std.specs.Prelude.{map, None, Some, ◌⊎◌}
+use Rattle.std.proofs.Common.{refl, ap}
 use Rattle.mm_bytes.specs.Limits.{longest_line, most_events}
+use Rattle.mm_base.specs.Input.{IsUnbroken, joined_lines}
 use Rattle.mm_base.specs.declared.replay_fault.ReplayFault.{ReplayFault}
 use Rattle.mm_base.specs.declared.replay_fault.ReplayFault.TheVariants.{Memory, ReadFault, WriteFault, BadLine, LineLong, TooMuch}
-use Rattle.mm_play.specs.HeadingStep.{HeadingStep, More, Begins}
-use Rattle.mm_play.specs.KeptBytes.{most_kept_bytes}
-use Rattle.mm_play.specs.Fronts.{IsFrontOf}
-use Rattle.mm_play.specs.StreamStanding.{StreamStanding}
+use Rattle.mm_play.specs.declared.player.LineRefusal.{LineRefusal}
+use Rattle.mm_play.specs.declared.player.ReplyFault.{ReplyFault}
+use Rattle.mm_play.specs.declared.player.ReplyFault.TheVariants as fault
+
+-- How much a command over events keeps.
+
+-- the most bytes of event lines, and of what is issued for them, together
+abbrev pub most_kept_bytes : ℕ
+most_kept_bytes = 268435456
+
+-- Where the line of a heading leads.
+-- To more lines of the heading, or to the events, behind what the heading names.
+
+pub data HeadingStep (G H : Type 0) : Type 0 where
+  More : G → HeadingStep G H
+  Begins : H → HeadingStep G H
+
+-- What the streams of a command tell.
+
+-- what is left of the input, and what the output received
+pub record StreamStanding : Type 0 where
+  pub left : Option (List ℕ)
+  pub received : Option (List ℕ)
+
+abbrev pub stream_standing : (left received : Option (List ℕ)) → StreamStanding
+stream_standing left received = record { left = left; received = received }
+
+-- Of an answer and a refusal: what shows that a player's lines are few.
+
+-- no answer and an answer are two
+pub no_answer : {Stage : Type 0} (why : LineRefusal) (reply : List ℕ) (next : Stage)
+    → (let r : Result (List ℕ × Stage) LineRefusal = Err why in r ≡ Ok (reply, next)) → ⊥
+no_answer why reply next h = cc
+
+-- an answer is one
+pub same_answer : {Stage : Type 0} (said told : List ℕ × Stage)
+    → (let r : Result (List ℕ × Stage) LineRefusal = Ok said in r ≡ Ok told) → said ≡ told
+same_answer said told h = cc
+
+-- where an answer leads
+pub same_next : {Stage : Type 0} (reply said : List ℕ) (next stage : Stage)
+    → (let r : Result (List ℕ × Stage) LineRefusal = Ok (said, stage) in r ≡ Ok (reply, next))
+    → stage ≡ next
+same_next {Stage} reply said next stage h =
+    ap (λ (q : List ℕ × Stage). q.1) (same_answer (said, stage) (reply, next) h)
+
+-- of two tests of which none holds the first one doesn't
+pub left_or : (a b : Bool) → (a || b) ≡ false → a ≡ false
+left_or true b h = h
+left_or false b h = refl
+
+-- What a player did with a line.
+
+-- the first bytes of these
+abbrev pub IsFrontOf : List ℕ → List ℕ → Type 0
+IsFrontOf front bytes = (rest : List ℕ) × (front ++ rest ≡ bytes)
+
+-- After Ok this is the reply, and the player is the one after it.
+abbrev pub GivesReply : {P : Type 0} → Result (List ℕ × P) LineRefusal → P
+    → Result (List ℕ) ReplyFault
+    → Type 0
+GivesReply answer next (Ok reply) = answer ≡ Ok (reply, next)
+GivesReply answer next (Err fault.Memory) = Unit {0}
+GivesReply answer next (Err (fault.Refused why)) = answer ≡ Err why
+
+-- The headline of a command over events: which lines it answered, and by how it ended what is left
+-- and what went out.
 
 -- A player of events, as its lines are read: those of a heading, from its start on, until they name
 -- a header, and then an event in each. And what is shown of events: the text that answers them,
@@ -128,3 +194,11 @@ pub record TellsEvents {G H E S T : Type 0} (p : EventPlayer G H E S)
       (λ line. IsOver it.others (p.kept (it.shown it.events)) line) result
       × TextWentOut behind (p.text it.events (it.shown it.events))
       (Some (p.last (it.shown it.events))) stop sent result)
+
+-- A reply that is put behind what stands there already.
+
+-- The bytes grew by a reply of which this is said; or there is none, and this is said of the fault.
+abbrev pub PutsReply : List ℕ → List ℕ → (Result (List ℕ) ReplyFault → Type 0)
+    → Result Unit ReplyFault → Type 0
+PutsReply old new says (Ok _) = (reply : List ℕ) × (new ≡ old ++ reply) × says (Ok reply)
+PutsReply old new says (Err fault) = says (Err fault)

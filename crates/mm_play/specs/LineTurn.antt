@@ -3,16 +3,14 @@
 use Rattle.std.specs.Prelude.{◌≡◌, ℕ, ◌≤◌, List, [], ◌∷◌, ◌++◌, length, Option, Some, None, Result, Ok, Err, OnOk, OnErr, Bool, true, false}
 use Rattle.std.specs.Prelude.{◌⊎◌}
 use Rattle.std.specs.Io.KnownBytes.{Appends, Consumes, IsAtEnd}
-use Rattle.mm_base.specs.Input.{IsUnbroken}
-use Rattle.mm_base.specs.Lines.{IsLineFront}
+use Rattle.mm_base.specs.Input.{IsUnbroken, IsLineFront}
 use Rattle.mm_bytes.specs.declared.fault.WriteFault as write
 use Rattle.mm_base.specs.declared.replay_fault.ReplayFault.{ReplayFault}
 use Rattle.mm_base.specs.declared.replay_fault.ReplayFault.TheVariants.{Memory, ReadFault, WriteFault, BadLine, TooMuch}
 use Rattle.mm_bytes.specs.Limits.{longest_line}
 use Rattle.mm_play.specs.declared.player.LineRefusal.{LineRefusal}
-use Rattle.mm_play.specs.Play.{PlayOutcome, play_outcome, stopped_outcome, refusal_at, outcome_of_rest}
-use Rattle.mm_play.specs.Fronts.{IsFrontOf}
-use Rattle.mm_play.specs.PlaysInput.{HoldsOfWhole}
+use Rattle.mm_play.specs.PlaysInput.{PlayOutcome, play_outcome, stopped_outcome, refusal_at, outcome_of_rest, HoldsOfWhole}
+use Rattle.mm_play.specs.Headline.{IsFrontOf}
 
 -- A player answered a line, the turn's, or didn't: by what is pending before it and behind it.
 abbrev pub PlayerAnswers : {P : Type 0} → ℕ → Result (List ℕ × P) LineRefusal → P → List ℕ → List ℕ

@@ -3,8 +3,7 @@ use Rattle.std.specs.Prelude.{◌≡◌, ℕ, ◌+◌, ◌-◌, ◌<◌, ◌^◌
 use Rattle.std.proofs.Common.{ap, refl, subst, arith}
 use Rattle.std.proofs.lemmas.Bool.Decides.{nat_tests}
 use Rattle.mm_bytes.specs.Limits.{most_events}
-use Rattle.mm_play.specs.Counting.{no_answer, same_next, left_or}
-use Rattle.mm_play.specs.HeadingStep.{HeadingStep, More, Begins}
+use Rattle.mm_play.specs.Headline.{no_answer, same_next, left_or, HeadingStep, More, Begins}
 use Rattle.mm_play.specs.Stage.{EventStage, HeadStage, PlayState, play_state, LineStage, AtHeading, InEvents, is_over, event_answer}
 use Rattle.mm_play.specs.Stage.{head_answer, line_answer, remaining_lines}
 use Rattle.mm_play.specs.declared.player.LineRefusal.TheVariants.{Bad, Much}

@@ -1,11 +1,9 @@
 //! The one player of lines that are a heading and events.
 
 ghost use Rattle.std.specs.Prelude.{◌≡◌, ◌≤◌, ℕ, List, length, MatchOption};
-ghost use Rattle.mm_play.specs.Stage.{LineStage, AtHeading, InEvents, line_answer, closing_lines, remaining_lines, play_state};
+ghost use Rattle.mm_play.specs.Stage.{LineStage, AtHeading, InEvents, line_answer, closing_lines, remaining_lines, play_state, stage_at};
 ghost use Rattle.mm_play.specs.StageLaws.{lines_fall, lines_few};
-ghost use Rattle.mm_play.specs.Commands.{stage_at};
-ghost use Rattle.mm_play.specs.Fronts.{GivesReply};
-ghost use Rattle.mm_play.specs.PutReply.{PutsReply};
+ghost use Rattle.mm_play.specs.Headline.{GivesReply, PutsReply};
 
 use crate::player::{Player, ReplyFault};
 use crate::progress::Progress;

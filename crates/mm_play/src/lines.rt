@@ -2,13 +2,12 @@
 
 ghost use Rattle.std.specs.Prelude.{◌≡◌, ◌+◌, ◌≤◌, ◌<◌, ℕ, List, false, [], length, OnOk};
 ghost use Rattle.std.specs.Io.KnownBytes.{Appends, IsAtEnd};
-ghost use Rattle.mm_bytes.specs.Faults.{CountsFaults};
+ghost use Rattle.mm_bytes.specs.Limits.{CountsFaults, longest_line};
 ghost use Rattle.mm_base.specs.Input.{IsUnbroken};
 ghost use Rattle.mm_base.specs.Streams.{SinkSends};
-ghost use Rattle.mm_bytes.specs.Limits.{longest_line};
 ghost use Rattle.mm_play.specs.LineTurn.{TurnAdvances, PlayerAnswers, EndsInput, SendsDue, SendsAndAnswers, PlaysNext};
 ghost use Rattle.mm_play.specs.PlaysInput.{PlaysInput, IsBlamed, is_read_fault, is_write_fault};
-ghost use Rattle.mm_play.specs.StreamStanding.{stream_standing};
+ghost use Rattle.mm_play.specs.Headline.{stream_standing};
 
 use crate::player::{LineRefusal, Player, ReplyFault};
 use mm_base::{LineFault, LineReader, Read, ReplayFault, Sink, Source, write_all};

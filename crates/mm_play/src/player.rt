@@ -4,8 +4,7 @@ ghost use Rattle.std.specs.Prelude.{◌≡◌, ◌≤◌, ◌<◌, ◌^◌, ◌+
 ghost use Rattle.mm_bytes.specs.Limits.{longest_line};
 ghost use Rattle.mm_play.specs.declared.player.LineRefusal.{LineRefusal};
 ghost use Rattle.mm_play.specs.declared.player.ReplyFault.TheVariants.{Memory as memory};
-ghost use Rattle.mm_play.specs.Fronts.{GivesReply};
-ghost use Rattle.mm_play.specs.PutReply.{PutsReply};
+ghost use Rattle.mm_play.specs.Headline.{GivesReply, PutsReply};
 
 use mm_bytes::{Bytes, Memory};
 use std::alloc::Global;

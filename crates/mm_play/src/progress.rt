@@ -2,8 +2,7 @@
 
 ghost use Rattle.std.specs.Prelude.{◌≡◌, ◌+◌, ◌≤◌, ◌<◌, ℕ, List, false, length};
 ghost use Rattle.mm_bytes.specs.Limits.{longest_line};
-ghost use Rattle.mm_play.specs.KeptBytes.{most_kept_bytes};
-ghost use Rattle.mm_play.specs.PutReply.{PutsReply};
+ghost use Rattle.mm_play.specs.Headline.{most_kept_bytes, PutsReply};
 
 use crate::player::{LineRefusal, ReplyFault};
 use crate::stage::PlayStage;
@@ -24,8 +23,7 @@ pub struct Progress<S: Drop> {
 }
 
 impl<S: PlayStage + Drop> Progress<S> {
-    ghost use Rattle.mm_play.specs.Progress.{RepliesToLine, play_state_of, IsRefusal};
-    ghost use Rattle.mm_play.specs.Stage.{is_over, play_state};
+    ghost use Rattle.mm_play.specs.Stage.{RepliesToLine, play_state_of, IsRefusal, is_over, play_state};
 
     /// A stage at its first event.
     pub fn new(stage: S) -> Progress<S>

@@ -2,9 +2,7 @@
 
 ghost use Rattle.std.specs.Prelude.{◌≡◌, ◌+◌, ◌≤◌, ◌<◌, ◌^◌, ℕ, List, Option, Some, is_some, length, IfOk};
 ghost use Rattle.mm_bytes.specs.Limits.{longest_line, most_events};
-ghost use Rattle.mm_play.specs.HeadingStep.{More};
-ghost use Rattle.mm_play.specs.KeptBytes.{most_kept_bytes};
-ghost use Rattle.mm_play.specs.PutReply.{PutsReply};
+ghost use Rattle.mm_play.specs.Headline.{More, most_kept_bytes, PutsReply};
 ghost use Rattle.mm_play.specs.Stage.{EventStage, HeadStage, StageAnswersEvent, TakesHead, number_in_64_bits};
 
 use crate::player::{ReplyFault, put};

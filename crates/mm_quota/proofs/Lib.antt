@@ -1,3 +1,2 @@
 mod Below
 mod PlaceLaws
-mod ActLaws

@@ -1,23 +1,27 @@
--- Going through the accounts of a ledger.
-use Rattle.mm_quota.proofs.Below.{◌≡◌, suc, ◌+◌, ◌^◌, ◌<◌, ◌≤◌, ◌&&◌, Bool, true, false, nat_le, List, [], ◌∷◌, ◌++◌, length, take, drop}
-use Rattle.mm_quota.proofs.Below.{Option, Some, None, option_map, option_and_then, refl, sym, ◌∙◌, ap, arith, subst, append_assoc}
-use Rattle.mm_quota.proofs.Below.{length-append, nat_tests, and-true, LedgerAccount, order_of, account_of_name, accounts_with, used_total}
-use Rattle.mm_quota.proofs.Below.{is_account, is_rising_from, account_bytes, body_of, account_at, accounts_from, count_of_bytes}
-use Rattle.mm_quota.proofs.Below.{has_ledger, ledger_of, used_total-le, account_of_name-other, account_of_name-this}
-use Rattle.mm_quota.proofs.Below.{account_of_name-absent, bytes_eq-order, account_at-account_bytes, ReadsBody, accounts_from-reads}
-use Rattle.mm_quota.proofs.Below.{IsSpelled, has_rising_from}
-use Rattle.std.specs.Prelude.{ℕ, ◌-◌}
+-- Going through the accounts of a ledger. With it: what an action does to the bytes of a ledger.
 use Rattle.std.specs.declared.cmp.Ordering.{Ordering}
 use Rattle.std.specs.declared.cmp.Ordering.TheVariants.{Less, Equal, Greater}
 use Rattle.std.specs.List.{list_all}
 use Rattle.std.specs.Ordering.{is_lt, match_ordering}
+use Rattle.std.specs.Prelude.{ℕ, ◌-◌, min}
 use Rattle.std.proofs.Math.Seq.{take-append_seam}
-use Rattle.mm_module.specs.Bytes.{are_bytes}
-use Rattle.mm_module.specs.PartLaws.{are_bytes-drop}
-use Rattle.mm_quota.specs.Places.{IsAccountPlace}
-use Rattle.mm_quota.specs.Table.{accounts_of, is_ledger, is_state}
-use Rattle.mm_quota.specs.Views.{as_account}
+use Rattle.mm_module.specs.Batch.{are_bytes}
+use Rattle.mm_module.specs.LineLaws.{are_bytes-drop}
+use Rattle.mm_quota.specs.declared.account.Account as declared
 use Rattle.mm_quota.specs.declared.place.AccountPlace.{AccountPlace}
+use Rattle.mm_quota.specs.LedgerLaws.{IsAction, IsQuotaRequest, request_of-IsQuotaRequest, IsPutIfAny, IsPut, decision_of-is}
+use Rattle.mm_quota.specs.LedgerListings.{OthersStay, others_stay}
+use Rattle.mm_quota.specs.Table.{accounts_of, is_ledger, is_state, spelling_of}
+use Rattle.mm_quota.specs.Views.{IsAccountPlace, as_account}
+use Rattle.mm_quota.proofs.Below.{◌≡◌, suc, ◌+◌, ◌^◌, ◌<◌, ◌≤◌, ◌&&◌, Bool, true, false, nat_le, List, [], ◌∷◌, ◌++◌, length, take, drop}
+use Rattle.mm_quota.proofs.Below.{Option, Some, None, option_map, option_and_then, refl, sym, ◌∙◌, ap, arith, subst, append_assoc}
+use Rattle.mm_quota.proofs.Below.{length-append, nat_tests, and-true, LedgerAccount, order_of, account_of_name, accounts_with, used_total}
+use Rattle.mm_quota.proofs.Below.{is_account, is_rising_from, account_bytes, body_of, account_at, accounts_from, count_of_bytes, has_ledger}
+use Rattle.mm_quota.proofs.Below.{ledger_of, used_total-le, account_of_name-other, account_of_name-this, account_of_name-absent}
+use Rattle.mm_quota.proofs.Below.{bytes_eq-order, account_at-account_bytes, ReadsBody, accounts_from-reads, IsSpelled, has_rising_from}
+use Rattle.mm_quota.proofs.Below.{Result, Ok, Err, IfOk, is_some, if◌then◌else◌, LedgerAction, LedgerRequest, On, LedgerOutput, decision_of}
+use Rattle.mm_quota.proofs.Below.{is_name, request_of, count_bytes, outcome_of_bytes, greatest_limit, IsFoundIfAny, account_of_name-found}
+use Rattle.mm_quota.proofs.Below.{length-after, put-place, is_state-SpellsLedger, IsAccount-from}
 
 -- the rest, where an account stands in front of it
 pub follow-front : (previous : List ℕ) (account : LedgerAccount) (accounts : Option (List LedgerAccount))
@@ -247,3 +251,93 @@ pub state-beyond : (most count : ℕ) (bytes : List ℕ) → 2 ≤ length bytes 
 state-beyond most count bytes long is count_is many =
     let flag : nat_le count most ≡ false = grind (arith, nat_tests) in
     flag ∙ sym (is_state-long most bytes long is ∙ rw (← count_is, flag) refl)
+
+-- What an action does to the bytes of a ledger.
+
+-- a state spells a ledger that its size allows
+pub IsSpelled-from : (most : ℕ) (bytes : List ℕ) → most < 2 ^ 16 → is_state most bytes ≡ true → IsSpelled bytes
+IsSpelled-from most bytes small is =
+    let h = is_state-SpellsLedger most bytes is in
+    record {
+      ledger = record { few = omega (arith, h.ledger.few); good = h.ledger.good; rising = h.ledger.rising };
+      spelled = h.spelled;
+      body = h.body;
+      counted = h.counted;
+      headed = h.headed;
+    }
+
+pub few-from : (most : ℕ) (bytes : List ℕ) → is_state most bytes ≡ true → length (ledger_of bytes) ≤ most
+few-from most bytes is = (is_state-SpellsLedger most bytes is).ledger.few
+
+-- the account that was found
+within : (name : List ℕ) (found : Option declared.Account) (named : Option LedgerAccount) → option_map as_account found ≡ named
+    → IsFoundIfAny is_account name named → (account : declared.Account) → found ≡ Some account
+    → (account.used ≤ account.limit) × (account.limit ≤ greatest_limit)
+within name found (Some other) same is account this = grind (arith, IsAccount-from other is.passed)
+within name found None same is account this = grind arith
+
+pub found-within : (bytes name : List ℕ) (found : Option declared.Account) → IsSpelled bytes
+    → option_map as_account found ≡ account_of_name name (ledger_of bytes) → (account : declared.Account) → found ≡ Some account
+    → (account.used ≤ account.limit) × (account.limit ≤ greatest_limit)
+found-within bytes name found is same account this =
+    within name found _ same (account_of_name-found is_account name (ledger_of bytes) is.ledger.good) account this
+
+-- the account that a decision puts
+pub put-is : (most : ℕ) (bytes name : List ℕ) (action : LedgerAction) (account : LedgerAccount) → IsSpelled bytes → is_name name ≡ true
+    → IsAction action → (decision_of (nat_le most (length (ledger_of bytes))) name (account_of_name name (ledger_of bytes)) action).0 ≡ Some
+    account → IsPut (nat_le most (length (ledger_of bytes))) name (account_of_name name (ledger_of bytes)) account
+put-is most bytes name action account is named acts puts =
+    let d = decision_of-is (nat_le most (length (ledger_of bytes))) name (account_of_name name (ledger_of bytes)) action named acts
+    (account_of_name-found is_account name (ledger_of bytes) is.ledger.good) in
+    let P : Option LedgerAccount
+    → Type 0 = λ change. IsPutIfAny (nat_le most (length (ledger_of bytes))) name (account_of_name name (ledger_of bytes)) change in
+    subst P puts d.change
+
+count-case : (most : ℕ) (accounts : List LedgerAccount) (account : LedgerAccount) (there : Bool)
+    → is_some (account_of_name account.name accounts) ≡ there
+    → is_rising_from [] accounts ≡ true → (there ≡ false → nat_le most (length accounts) ≡ false) → most < 2 ^ 16
+    → (if there then length accounts else min (length accounts + 1) 65535) ≡ length (accounts_with account accounts)
+count-case most accounts account there is rising room small = grind (arith, nat_tests, length-after (put-place account accounts) [] rising)
+
+-- the bytes with the account at its place are those of the ledger with the account
+pub put-spelled : (most count : ℕ) (bytes name front back : List ℕ) (account : LedgerAccount) (there : Bool) → most < 2 ^ 16
+    → IsSpelled bytes
+    → IsPut (nat_le most (length (ledger_of bytes))) name (account_of_name name (ledger_of bytes)) account
+    → there ≡ is_some (account_of_name name (ledger_of bytes))
+    → count ≡ (if there then length (ledger_of bytes) else min (length (ledger_of bytes) + 1) 65535)
+    → ((new : LedgerAccount) → new.name ≡ name → body_of (accounts_with new (ledger_of bytes)) ≡ front ++ (account_bytes new ++ back))
+    → count_bytes count ++ (front ++ (account_bytes account ++ back)) ≡ spelling_of (accounts_with account (ledger_of bytes))
+unfolding spelling_of
+put-spelled most count bytes name front back account there small is puts there_is count_is stands =
+    let found : is_some (account_of_name account.name (ledger_of bytes)) ≡ there = ap
+    (λ (n : List ℕ). is_some (account_of_name n (ledger_of bytes))) puts.named ∙ sym there_is in
+    let counted : count ≡ length (accounts_with account (ledger_of bytes)) = count_is
+    ∙ count-case most (ledger_of bytes) account there found is.ledger.rising (λ absent. puts.room (sym there_is ∙ absent)) small in
+    rw (counted, stands account puts.named) refl
+
+pub is_some-as_account : (found : Option declared.Account) → is_some found ≡ is_some (option_map as_account found)
+is_some-as_account None = refl
+is_some-as_account (Some account) = refl
+
+-- a decision on what was counted and found is one on the ledger
+pub decided : (most count : ℕ) (bytes name : List ℕ) (found : Option LedgerAccount) (action : LedgerAction)
+    (decision : Option LedgerAccount × LedgerOutput)
+    → decision ≡ decision_of (nat_le most count) name found action → count ≡ length (ledger_of bytes)
+    → found ≡ account_of_name name (ledger_of bytes)
+    → decision ≡ decision_of (nat_le most (length (ledger_of bytes))) name (account_of_name name (ledger_of bytes)) action
+decided most count bytes name found action decision is count_is found_is =
+    is ∙ ap (λ (n : ℕ). decision_of (nat_le most n) name found action) count_is
+    ∙ ap (λ (f : Option LedgerAccount). decision_of (nat_le most (length (ledger_of bytes))) name f action) found_is
+
+-- what was read of a request
+pub asked-named : (words : List (List ℕ)) (name : List ℕ) (action : LedgerAction) → request_of words ≡ Some (On name action)
+    → (is_name name ≡ true) × IsAction action
+asked-named words name action is = subst (λ (r : Option LedgerRequest). IsQuotaRequest r) is (request_of-IsQuotaRequest words)
+
+-- what a step gives, where it gives the state of the table
+pub IfOk-others : {X E : Type 0} (r : Result X E) (view : X → List ℕ) (most : ℕ) (state request : List ℕ) → most < 2 ^ 16
+    → is_state most state ≡ true → IfOk r (λ x. view x ≡ spelling_of (outcome_of_bytes most state request).0)
+    → IfOk r (λ x. OthersStay state request (view x))
+IfOk-others (Ok x) view most state request small is same =
+    subst (λ (s : List ℕ). OthersStay state request s) (sym same) (others_stay most state request small is)
+IfOk-others (Err e) view most state request small is same = tt

@@ -1,12 +1,5 @@
 pub mod Table
 pub mod LedgerLaws
-pub mod AccountLaws
 pub mod SpellingLaws
-pub mod QuotaLaws
 pub mod Views
-pub mod IsLedger
-pub mod Places
-pub mod Ids
-pub mod OthersStay
-pub mod Requests
 pub mod LedgerListings

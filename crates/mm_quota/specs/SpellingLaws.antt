@@ -1,23 +1,60 @@
--- Laws of the bytes of a ledger.
-use Rattle.std.specs.Prelude.{◌≡◌, ℕ, zero, suc, ◌+◌, ◌*◌, ◌^◌, ◌<◌, ◌≤◌, true, nat_le, List, [], ◌∷◌, ◌++◌, length, take, drop, Option}
-use Rattle.std.specs.Prelude.{Some, None, option_map, option_and_then, if◌then◌else◌}
-use Rattle.std.proofs.Common.{unwrap_or, refl, sym, ◌∙◌, ap, arith, append_assoc, length-append}
+-- Laws of the bytes of a ledger. With it: what a name and an account keep.
 use Rattle.std.specs.List.{list_all}
-use Rattle.std.proofs.Math.Seq.{take-append_seam, drop-append_seam}
+use Rattle.std.specs.Prelude.{◌≡◌, ℕ, ◌≤◌, true, List, length, zero, suc, ◌+◌, ◌*◌, ◌^◌, ◌<◌, nat_le, [], ◌∷◌, ◌++◌, take, drop, Option}
+use Rattle.std.specs.Prelude.{Some, None, option_map, option_and_then, if◌then◌else◌}
+use Rattle.std.proofs.Common.{arith, unwrap_or, refl, sym, ◌∙◌, ap, append_assoc, length-append}
 use Rattle.std.proofs.lemmas.Bool.Decides.{nat_tests}
 use Rattle.std.proofs.lemmas.List.{take-append-drop, length-take-le, length-drop}
 use Rattle.std.proofs.lemmas.List.Folds.{list_all-append}
 use Rattle.std.proofs.lemmas.Nat.{be_bytes_2, from_be_bytes-to_be_bytes_2}
-use Rattle.mm_bytes.specs.Fields.{eight_bytes}
-use Rattle.mm_module.specs.Bytes.{is_byte, are_bytes}
-use Rattle.mm_module.specs.LineLaws.{and-true, and-both, is_byte-rem}
-use Rattle.mm_module.specs.Numbers.{number_of_eight_bytes}
-use Rattle.mm_module.specs.PartLaws.{take-front, drop-front, are_bytes-take, are_bytes-drop, are_bytes-append, are_bytes-visible}
-use Rattle.mm_module.specs.PartLaws.{get_or-small, length-eight, are_bytes-eight, number_of_eight_bytes-eight, eight-number_of_eight_bytes}
-use Rattle.mm_quota.specs.Table.{LedgerAccount, is_account, is_ledger, count_bytes, count_of_bytes, account_bytes, body_of, spelling_of}
-use Rattle.mm_quota.specs.Table.{account_after, account_at, accounts_from, accounts_of, has_ledger, is_state, ledger_of}
-use Rattle.mm_quota.specs.AccountLaws.{IsAccount-from}
-use Rattle.mm_quota.specs.IsLedger.{IsLedger, SpellsLedger}
+use Rattle.std.proofs.Math.Seq.{take-append_seam, drop-append_seam}
+use Rattle.mm_bytes.specs.Limits.{eight_bytes}
+use Rattle.mm_module.specs.Batch.{is_byte, are_bytes, number_of_eight_bytes}
+use Rattle.mm_module.specs.LineLaws.{and-true, and-both, is_byte-rem, take-front, drop-front, are_bytes-take, are_bytes-drop}
+use Rattle.mm_module.specs.LineLaws.{are_bytes-append, are_bytes-visible, get_or-small, length-eight, are_bytes-eight}
+use Rattle.mm_module.specs.LineLaws.{number_of_eight_bytes-eight, eight-number_of_eight_bytes}
+use Rattle.mm_module.specs.Meaning.{is_visible}
+use Rattle.mm_quota.specs.Table.{LedgerAccount, is_name, is_account, greatest_limit, is_ledger, count_bytes, count_of_bytes, account_bytes}
+use Rattle.mm_quota.specs.Table.{body_of, spelling_of, account_after, account_at, accounts_from, accounts_of, has_ledger, is_state}
+use Rattle.mm_quota.specs.Table.{ledger_of}
+use Rattle.mm_quota.specs.Views.{IsLedger, SpellsLedger}
+
+-- What a name and an account keep.
+
+-- what a name and an account keep
+pub record IsName (name : List ℕ) : Type 0 where
+  pub some : 1 ≤ length name
+  pub short : length name ≤ 32
+  pub visible : list_all is_visible name ≡ true
+
+pub record IsAccount (account : LedgerAccount) : Type 0 where
+  pub formed : is_name account.name ≡ true
+  pub named : IsName account.name
+  pub limited : account.limit ≤ greatest_limit
+  pub within : account.used ≤ account.limit
+
+IsName-from : (name : List ℕ) → is_name name ≡ true → IsName name
+unfolding is_name
+IsName-from name is = grind (arith, nat_tests)
+
+pub IsAccount-from : (account : LedgerAccount) → is_account account ≡ true → IsAccount account
+unfolding is_account
+IsAccount-from account is =
+    let formed : is_name account.name ≡ true = grind (arith, nat_tests) in
+    record {
+      formed = formed;
+      named = IsName-from account.name formed;
+      limited = grind (arith, nat_tests);
+      within = grind (arith, nat_tests);
+    }
+
+pub is_account-made : (account : LedgerAccount) → is_name account.name ≡ true → account.limit ≤ greatest_limit
+    → account.used ≤ account.limit
+    → is_account account ≡ true
+unfolding is_account
+is_account-made account named limited within = grind (arith, nat_tests)
+
+-- Laws of the bytes of a ledger.
 
 length-count_bytes : (n : ℕ) → length (count_bytes n) ≡ 2
 unfolding count_bytes

@@ -8,13 +8,9 @@ use Rattle.std.specs.Int.{w16, to_be_bytes, from_be_bytes}
 use Rattle.std.specs.List.{list_all}
 use Rattle.std.specs.Ordering.{nat_cmp, is_lt, match_ordering}
 use Rattle.std.specs.Str.{bytes_eq}
-use Rattle.mm_bytes.specs.Decimals.{decimal_number}
-use Rattle.mm_bytes.specs.Fields.{eight_bytes}
-use Rattle.mm_module.specs.Bytes.{are_bytes}
-use Rattle.mm_module.specs.Numbers.{number_of_eight_bytes}
-use Rattle.mm_module.specs.Visible.{is_visible}
-use Rattle.mm_module.specs.Words.{words_of}
-use Rattle.mm_module.specs.Meaning.{Meaning}
+use Rattle.mm_bytes.specs.Limits.{decimal_number, eight_bytes}
+use Rattle.mm_module.specs.Batch.{are_bytes, number_of_eight_bytes}
+use Rattle.mm_module.specs.Meaning.{is_visible, words_of, Meaning}
 
 -- an account
 pub record LedgerAccount : Type 0 where

@@ -2,8 +2,8 @@
 
 ghost use Rattle.std.specs.Prelude.{◌≡◌, ◌/◌, ◌%◌, ◌++◌, ◌∷◌, codes, OnOk};
 ghost use Rattle.std.specs.Fmt.{decimal};
-ghost use Rattle.mm_quota.specs.LedgerListings.{ledger_is_listed, ledger_listing, quota_is_listed, quota_listing};
-ghost use Rattle.mm_quota.specs.Requests.{account_name, account_request, amount_text};
+ghost use Rattle.mm_quota.specs.LedgerListings.{ledger_is_listed, ledger_listing, quota_is_listed, quota_listing, account_name};
+ghost use Rattle.mm_quota.specs.LedgerListings.{account_request, amount_text};
 
 use crate::quota::Accounts;
 use mm_bytes::{Bytes, Memory, put_numbered};

@@ -3,7 +3,7 @@
 ghost use Rattle.std.specs.Prelude.{◌≡◌, ◌≤◌, ◌-◌, [], length, take, drop};
 ghost use Rattle.std.specs.Ordering.{is_lt};
 ghost use Rattle.mm_quota.specs.Table.{order_of, used_total, ledger_of, is_state, accounts_from, count_of_bytes};
-ghost use Rattle.mm_quota.specs.IsLedger.{IsSpelled, has_rising_from};
+ghost use Rattle.mm_quota.specs.Views.{IsSpelled, has_rising_from};
 
 use crate::account::{Account, account_is_formed, split_account};
 use std::cmp::Ordering;
@@ -109,8 +109,7 @@ pub fn sum_of(state: &[u8]) -> u64
 impl<'a> AccountPlace<'a> {
     ghost use Rattle.std.specs.Prelude.{◌≡◌};
     ghost use Rattle.mm_quota.specs.Table.{ledger_of};
-    ghost use Rattle.mm_quota.specs.IsLedger.{IsSpelled};
-    ghost use Rattle.mm_quota.specs.Places.{IsAccountPlace};
+    ghost use Rattle.mm_quota.specs.Views.{IsSpelled, IsAccountPlace};
 
     /// The place of a name in a state.
     pub fn of(state: &'a [u8], name: &[u8]) -> AccountPlace<'a>

@@ -2,11 +2,10 @@
 
 ghost use Rattle.std.specs.Prelude.{◌≡◌, ◌≤◌, ◌+◌, ◌++◌, Some, true, min, is_some, if◌then◌else◌, length, IfOk, OnOk, IsTrue};
 ghost use Rattle.mm_quota.specs.Table.{On, is_name, account_bytes, count_bytes, spelling_of, is_state, ledger_of, outcome_of, outcome_of_bytes, text_of};
-ghost use Rattle.mm_quota.specs.Views.{as_account, as_action, as_says};
-ghost use Rattle.mm_quota.specs.QuotaLaws.{IsAction};
-ghost use Rattle.mm_quota.specs.OthersStay.{OthersStay};
-ghost use Rattle.mm_quota.specs.IsLedger.{IsSpelled};
-ghost use Rattle.mm_quota.specs.Ids.{small_ledger, small_ledger_is_lawful, small_ledger_is_short, wide_ledger, wide_ledger_is_lawful};
+ghost use Rattle.mm_quota.specs.Views.{as_account, as_action, as_says, IsSpelled};
+ghost use Rattle.mm_quota.specs.LedgerLaws.{IsAction};
+ghost use Rattle.mm_quota.specs.LedgerListings.{OthersStay, small_ledger, small_ledger_is_lawful, small_ledger_is_short, wide_ledger};
+ghost use Rattle.mm_quota.specs.LedgerListings.{wide_ledger_is_lawful};
 
 use crate::account::{Account, put_account};
 use crate::place::{AccountPlace, parts, state_is_spelled, sum_of};

@@ -2,7 +2,7 @@
 
 ghost use Rattle.std.specs.Prelude.{◌≡◌, ◌≤◌, [], ◌∷◌, IfOk, option_map};
 ghost use Rattle.std.specs.Option.{ForSome};
-ghost use Rattle.mm_module.specs.Words.{words_of};
+ghost use Rattle.mm_module.specs.Meaning.{words_of};
 ghost use Rattle.mm_quota.specs.Table.{action_of, request_of, decision_of, text_of, IsUsed, greatest_limit};
 ghost use Rattle.mm_quota.specs.Views.{as_account, as_action, as_request, as_says};
 

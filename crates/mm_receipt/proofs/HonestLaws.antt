@@ -14,18 +14,17 @@ use Rattle.std.specs.Str.{bytes_eq}
 use Rattle.std.proofs.lemmas.Bool.Decides.{nat_tests}
 use Rattle.std.proofs.lemmas.Slice.Eq.{bytes_eq-Decides}
 use Rattle.mm_bytes.specs.Limits.{last_position, longest_request}
-use Rattle.mm_module.specs.Meaning.{Meaning}
-use Rattle.mm_module.specs.WordsWords.{is_space}
+use Rattle.mm_module.specs.Meaning.{Meaning, is_space}
 use Rattle.mm_play.specs.declared.player.LineRefusal.TheVariants.{Much}
-use Rattle.mm_play.specs.Play.{PlayOutcome, play_outcome, outcome_of_lines}
+use Rattle.mm_play.specs.PlaysInput.{PlayOutcome, play_outcome, outcome_of_lines}
 use Rattle.mm_receipted.specs.declared.receipt.NotReceipt.{NotReceipt}
 use Rattle.mm_receipted.specs.declared.receipt.NotReceipt.TheVariants.{Form, Tag}
 use Rattle.mm_receipted.specs.Receipts.{check_of_receipt}
-use Rattle.mm_receipted.specs.TaggedMessages.{IsCounted, IsUnforged}
+use Rattle.mm_receipted.specs.ReceiptListing.{IsCounted, IsUnforged}
 use Rattle.mm_receipt.specs.declared.pair.GoodPair.{GoodPair}
 use Rattle.mm_receipt.specs.declared.pair.PairVerdict.{PairVerdict}
 use Rattle.mm_receipt.specs.declared.pair.PairVerdict.TheVariants.{Good}
-use Rattle.mm_receipt.specs.HonestCheck.{pairs_of, text_alone, pair_text_alone, WasTagged, IsTrue, IsHonest, ChecksAreHonest}
+use Rattle.mm_receipt.specs.ReceiptCheck.{pairs_of, text_alone, pair_text_alone, WasTagged, IsTrue, IsHonest, ChecksAreHonest}
 
 -- a pair that nothing stands beside is answered by its output alone
 alone-text : (position : ℕ) (request output : List ℕ) (answer : Result (Unit {0}) NotReceipt)

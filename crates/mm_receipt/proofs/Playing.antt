@@ -5,10 +5,8 @@ use Rattle.mm_receipt.proofs.Below.{closing_at, last_line, first_check}
 use Rattle.mm_base.specs.declared.replay_fault.ReplayFault.{ReplayFault}
 use Rattle.mm_play.specs.declared.player.ReplyFault.{ReplyFault}
 use Rattle.mm_play.specs.declared.player.ReplyFault.TheVariants as fault
-use Rattle.mm_play.specs.PlaysInput.{PlaysInput}
-use Rattle.mm_play.specs.Fronts.{GivesReply}
-use Rattle.mm_play.specs.TellsOutput.{AnswersAllLines, AnswersWholeInput}
-use Rattle.mm_play.specs.StreamStanding.{stream_standing}
+use Rattle.mm_play.specs.PlaysInput.{PlaysInput, AnswersAllLines, AnswersWholeInput}
+use Rattle.mm_play.specs.Headline.{GivesReply, stream_standing}
 use Rattle.mm_receipt.specs.declared.report.ReceiptReport.{ReceiptReport}
 use Rattle.mm_receipt.specs.Reports.{AnswersHonestly, ChecksReceipts, ChecksHonestly, EndsHonestly}
 use Rattle.mm_receipt.proofs.HonestLaws.{honest}

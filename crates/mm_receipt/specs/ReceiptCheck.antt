@@ -1,22 +1,26 @@
 -- The check of receipts: pairs of lines, a request with its position and then the output, each
--- answered in a line.
-use Rattle.std.specs.Prelude.{ℕ, ◌+◌, ◌-◌, ◌*◌, ◌&&◌, ◌||◌, Bool, nat_le, nat_lt, List, [], ◌∷◌, ◌++◌, length, take, drop, codes, Option}
-use Rattle.std.specs.Prelude.{Some, None, Result, Ok, Err, if◌then◌else◌}
+-- answered in a line. With it: a check ends; what a check says of receipts that aren't forged.
 use Rattle.std.specs.BTreeMap.{is_at, insert_entry}
 use Rattle.std.specs.Fmt.{decimal}
-use Rattle.std.specs.List.{position}
+use Rattle.std.specs.List.{position, AllByRecursion}
 use Rattle.std.specs.Map.{lookup}
 use Rattle.std.specs.Ordering.{nat_cmp}
+use Rattle.std.specs.Prelude.{ℕ, ◌+◌, ◌-◌, ◌*◌, ◌&&◌, ◌||◌, Bool, nat_le, nat_lt, List, [], ◌∷◌, ◌++◌, length, take, drop, codes, Option}
+use Rattle.std.specs.Prelude.{Some, None, Result, Ok, Err, if◌then◌else◌, ◌≡◌, ◌<◌, ◌^◌}
 use Rattle.std.specs.Str.{bytes_eq}
-use Rattle.mm_bytes.specs.Decimals.{decimal_number}
-use Rattle.mm_bytes.specs.Limits.{last_position, longest_request}
-use Rattle.mm_module.specs.WordsWords.{is_space}
-use Rattle.mm_play.specs.declared.player.LineRefusal.{LineRefusal}
-use Rattle.mm_play.specs.declared.player.LineRefusal.TheVariants.{Bad, Much}
-use Rattle.mm_receipted.specs.Receipts.{check_of_receipt}
+use Rattle.std.proofs.Common.{arith}
+use Rattle.std.proofs.lemmas.Bool.Decides.{nat_tests}
+use Rattle.mm_bytes.specs.Limits.{decimal_number, last_position, longest_request}
+use Rattle.mm_module.specs.Meaning.{is_space, Meaning}
+use Rattle.mm_receipted.specs.ReceiptListing.{IsCounted, IsTagged, WasRun}
+use Rattle.mm_receipted.specs.Receipts.{check_of_receipt, receipt_message}
+use Rattle.mm_receipted.specs.Table.{first_receipt_state}
 use Rattle.mm_receipted.specs.declared.receipt.NotReceipt.{NotReceipt}
 use Rattle.mm_receipted.specs.declared.receipt.NotReceipt.TheVariants.{Form, Tag}
 use Rattle.mm_schedule.specs.Replies.{end_line}
+use Rattle.mm_play.specs.PlaysInput.{play_outcome, outcome_of_lines}
+use Rattle.mm_play.specs.declared.player.LineRefusal.{LineRefusal}
+use Rattle.mm_play.specs.declared.player.LineRefusal.TheVariants.{Bad, Much}
 use Rattle.mm_receipt.specs.declared.pair.AskedRequest.{AskedRequest}
 use Rattle.mm_receipt.specs.declared.pair.GoodPair.{GoodPair}
 use Rattle.mm_receipt.specs.declared.pair.PairVerdict.{PairVerdict}
@@ -183,3 +187,110 @@ remaining_lines_by tally (Some asked) = 2 * (most_pairs - tally.pairs) - 1
 -- how many more lines can be answered
 abbrev pub remaining_lines_at : CheckState → ℕ
 remaining_lines_at it = remaining_lines_by it.tally it.asked
+
+-- A check ends: each answered line leaves fewer.
+
+first_counts : (tally : CheckTally) (line : List ℕ) (found : Option AskedRequest) (reply : List ℕ)
+    (next : CheckState)
+    → reply_of_first (first_answer_by tally line found) ≡ Ok (reply, next)
+    → remaining_lines_at next < 2 * (most_pairs - tally.pairs)
+first_counts tally line found reply next h = grind (arith, nat_tests)
+
+after-pairs : (tally : CheckTally) (asked : AskedRequest) (output : List ℕ) (verdict : PairVerdict)
+    → (tally_after_pair tally asked output verdict).pairs ≡ tally.pairs + 1
+after-pairs tally asked output verdict = grind arith
+
+second_counts : (tally after : CheckTally) (line said reply : List ℕ) (next : CheckState)
+    → after.pairs ≡ tally.pairs + 1
+    → reply_of_second (if is_too_much tally line then Err Much else Ok (said, after))
+    ≡ Ok (reply, next)
+    → remaining_lines_at next < 2 * (most_pairs - tally.pairs) - 1
+second_counts tally after line said reply next one h = grind (arith, nat_tests)
+
+counts_at : (tally : CheckTally) (asked : Option AskedRequest) (line reply : List ℕ)
+    (next : CheckState)
+    → pair_answer tally asked line ≡ Ok (reply, next)
+    → remaining_lines_at next < remaining_lines_at (record { tally = tally; asked = asked })
+counts_at tally None line reply next h = first_counts tally line (pair_at line) reply next h
+counts_at tally (Some asked) line reply next h =
+    let verdict = pair_verdict tally asked line in
+    second_counts tally (tally_after_pair tally asked line verdict) line
+    (verdict_text asked.position verdict) reply next (after-pairs tally asked line verdict) h
+
+-- an answered line leaves fewer
+pub receipts_count_down : (it next : CheckState) (line reply : List ℕ)
+    → receipts_answer it line ≡ Ok (reply, next)
+    → remaining_lines_at next < remaining_lines_at it
+receipts_count_down it next line reply h = counts_at it.tally it.asked line reply next h
+
+left_few : (tally : CheckTally) (asked : Option AskedRequest)
+    → remaining_lines_at (record { tally = tally; asked = asked }) < 2 ^ 31
+left_few tally asked = grind arith
+
+-- and there are few at first
+pub receipts_are_few : (it : CheckState) → remaining_lines_at it < 2 ^ 31
+receipts_are_few it = left_few it.tally it.asked
+
+-- What a check says of receipts that aren't forged.
+
+-- a pair of lines: a request at a position, and the output
+pub record GivenPair : Type 0 where
+  pub asked : AskedRequest
+  pub output : List ℕ
+
+-- the pairs of lines, where the first of one may wait already
+abbrev pub pairs_of : Option AskedRequest → List (List ℕ) → List GivenPair
+pairs_of asked [] = []
+pairs_of None (line ∷ lines) = pairs_of (pair_at line) lines
+pairs_of (Some asked) (line ∷ lines) = record { asked = asked; output = line } ∷ pairs_of None lines
+
+-- what a pair of this position is answered by its output alone, whatever came before it: never
+-- `clash`
+abbrev pub text_alone : ℕ → Result (Unit {0}) NotReceipt → List ℕ
+text_alone position (Err Form) = verdict_text position NoForm
+text_alone position (Err Tag) = verdict_text position NoTag
+text_alone position (Ok _) = verdict_text position Good
+
+abbrev pub pair_text_alone : List ℕ → GivenPair → List ℕ
+pair_text_alone key pair =
+    text_alone pair.asked.position
+    (check_of_receipt key pair.asked.position pair.asked.request pair.output)
+
+abbrev pub all_texts_alone : List ℕ → List GivenPair → List ℕ
+all_texts_alone key [] = []
+all_texts_alone key (pair ∷ pairs) = pair_text_alone key pair ++ all_texts_alone key pairs
+
+-- where the output is accepted, its message is one that these requests tagged
+abbrev pub WasTagged : Meaning → List (List ℕ) → List ℕ → GivenPair → Type 0
+WasTagged inner requests key pair =
+    check_of_receipt key pair.asked.position pair.asked.request pair.output ≡ Ok tt
+    → IsTagged inner key (first_receipt_state inner) requests
+    (receipt_message pair.asked.position pair.asked.request (drop 65 pair.output))
+
+-- where the output is accepted, it is what was said to the request at its position
+abbrev pub IsTrue : Meaning → List (List ℕ) → List ℕ → GivenPair → Type 0
+IsTrue inner requests key pair =
+    check_of_receipt key pair.asked.position pair.asked.request pair.output ≡ Ok tt
+    → WasRun inner requests pair.asked.position pair.asked.request pair.output
+
+-- Each pair is answered as if it came alone, so that none is `clash`; and the good pairs are those
+-- of the run.
+pub record IsHonest (inner : Meaning) (requests : List (List ℕ)) (key : List ℕ)
+    (pairs : List GivenPair)
+    (written : List ℕ) : Type 0 where
+  pub plain : written ≡ all_texts_alone key pairs
+  pub right : AllByRecursion (IsTrue inner requests key) pairs
+
+-- Whatever short requests a module ran: where they tagged the message of each output that is
+-- accepted, it is so.
+abbrev pub IsHonestFor : List ℕ → List (List ℕ) → List ℕ → Type 0
+IsHonestFor key lines written =
+    (inner : Meaning) (requests : List (List ℕ)) → AllByRecursion IsCounted requests
+    → AllByRecursion (WasTagged inner requests key) (pairs_of None lines)
+    → IsHonest inner requests key (pairs_of None lines) written
+
+-- so it is with lines that were answered
+abbrev pub ChecksAreHonest : Type 0
+ChecksAreHonest = (key : List ℕ) (lines : List (List ℕ)) (written : List ℕ) (next : CheckState)
+    → outcome_of_lines receipts_answer 1 (first_check key) lines ≡ play_outcome written (Ok next)
+    → IsHonestFor key lines written

@@ -1,12 +1,17 @@
--- A check of a whole input.
-use Rattle.std.specs.Prelude.{◌≡◌, ℕ, List, ◌++◌, Option, Result}
+-- A check of a whole input. With it: the tally of the code, as contracts see it.
+use Rattle.std.specs.Prelude.{◌≡◌, ℕ, List, ◌++◌, Option, Result, ◌≤◌, length, Some, None, Ok, Err}
+use Rattle.mm_bytes.specs.Limits.{longest_request}
 use Rattle.mm_base.specs.declared.replay_fault.ReplayFault.{ReplayFault}
-use Rattle.mm_play.specs.PlaysInput.{PlaysInput}
-use Rattle.mm_play.specs.TellsOutput.{AnswersAllLines, IsReported, RefusesMuch, TellsOutput}
-use Rattle.mm_play.specs.StreamStanding.{stream_standing}
-use Rattle.mm_receipt.specs.ReceiptCheck.{CheckState, first_check, last_line, receipts_answer, receipts_closing}
-use Rattle.mm_receipt.specs.HonestCheck.{IsHonestFor}
+use Rattle.mm_play.specs.Headline.{stream_standing}
+use Rattle.mm_play.specs.PlaysInput.{PlaysInput, AnswersAllLines, IsReported, RefusesMuch, TellsOutput}
+use Rattle.mm_play.specs.declared.player.LineRefusal.{LineRefusal}
+use Rattle.mm_play.specs.declared.player.ReplyFault.{ReplyFault}
+use Rattle.mm_play.specs.declared.player.ReplyFault.TheVariants as fault
+use Rattle.mm_receipt.specs.declared.pair.AskedRequest.{AskedRequest}
 use Rattle.mm_receipt.specs.declared.report.ReceiptReport.{ReceiptReport}
+use Rattle.mm_receipt.specs.declared.tally.Tally.{Tally}
+use Rattle.mm_receipt.specs.ReceiptCheck.{CheckState, first_check, last_line, receipts_answer, receipts_closing, IsHonestFor}
+use Rattle.mm_receipt.specs.ReceiptCheck as checking
 
 -- the counts of the last line
 abbrev pub CountsLast : CheckState → ReceiptReport → Type 0
@@ -39,3 +44,28 @@ pub record ChecksHonestly (key : List ℕ) (left left' received received' : Opti
   pub tells : TellsOutput (AnswersHonestly key) (EndsHonestly key)
       (RefusesMuch receipts_answer (first_check key)) left' checks.plays.taken checks.plays.sent
       result
+
+-- The tally of the code, as contracts see it.
+
+abbrev pub tally_of : Tally → checking.CheckTally
+tally_of tally =
+    record {
+      key = tally.key;
+      known = tally.known.entries;
+      good = tally.good;
+      pairs = tally.pairs;
+      read = tally.read;
+    }
+
+-- The first line of a pair was taken, with this answer.
+abbrev pub TakesFirst : Result (AskedRequest × checking.CheckTally) LineRefusal
+    → checking.CheckTally
+    → Result AskedRequest ReplyFault → Type 0
+TakesFirst answer next (Ok asked) = answer ≡ Ok (asked, next)
+TakesFirst answer next (Err fault.Memory) = Unit {0}
+TakesFirst answer next (Err (fault.Refused why)) = answer ≡ Err why
+
+-- a request that waits has at most 4,096 bytes
+abbrev pub IsShortAsked : Option AskedRequest → Type 0
+IsShortAsked None = Unit {0}
+IsShortAsked (Some asked) = length asked.request ≤ longest_request

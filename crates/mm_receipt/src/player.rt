@@ -1,12 +1,10 @@
 //! The command `receipts KEY`.
 
 ghost use Rattle.std.specs.Prelude.{◌≡◌, ℕ, List, Some, Ok};
-ghost use Rattle.mm_play.specs.Play.{outcome_of_input};
-ghost use Rattle.mm_play.specs.PlaysInput.{IsBlamed, IsUnrefused, is_read_fault, is_write_fault};
+ghost use Rattle.mm_play.specs.PlaysInput.{outcome_of_input, IsBlamed, IsUnrefused, is_read_fault, is_write_fault};
 ghost use Rattle.mm_receipt.specs.ReceiptCheck.{CheckState, first_check, receipts_answer, receipts_closing, remaining_lines_at};
-ghost use Rattle.mm_receipt.specs.LineCountdown.{receipts_count_down, receipts_are_few};
-ghost use Rattle.mm_receipt.specs.Tallies.{tally_of, IsShortAsked};
-ghost use Rattle.mm_receipt.specs.Reports.{ChecksReceipts, ChecksHonestly, CountsLast};
+ghost use Rattle.mm_receipt.specs.ReceiptCheck.{receipts_count_down, receipts_are_few};
+ghost use Rattle.mm_receipt.specs.Reports.{tally_of, IsShortAsked, ChecksReceipts, ChecksHonestly, CountsLast};
 
 use crate::pair::AskedRequest;
 use crate::report::ReceiptReport;

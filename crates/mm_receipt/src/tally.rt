@@ -3,7 +3,7 @@
 ghost use Rattle.std.specs.Prelude.{◌≡◌, ◌≤◌, ◌<◌, ◌+◌, ℕ, List, false, length, IfOk, IfSome, OnOk, option_map};
 ghost use Rattle.std.specs.List.{position};
 ghost use Rattle.mm_bytes.specs.Limits.{longest_line, longest_request};
-ghost use Rattle.mm_module.specs.WordsWords.{is_space};
+ghost use Rattle.mm_module.specs.Meaning.{is_space};
 ghost use Rattle.mm_receipt.specs.ReceiptCheck.{pair_at, verdict_by_pair, most_pairs, most_read};
 
 use crate::pair::{AskedRequest, GoodPair, PairVerdict};
@@ -45,8 +45,8 @@ fn space_in(line: &[u8]) -> Option<usize>
 
 impl Tally {
     ghost use Rattle.mm_receipt.specs.ReceiptCheck.{is_too_much, first_tally, first_answer, pair_verdict, tally_with_pair, tally_with_known, tally_after_pair, second_answer};
-    ghost use Rattle.mm_receipt.specs.Tallies.{tally_of, TakesFirst};
-    ghost use Rattle.mm_play.specs.Fronts.{GivesReply};
+    ghost use Rattle.mm_receipt.specs.Reports.{tally_of, TakesFirst};
+    ghost use Rattle.mm_play.specs.Headline.{GivesReply};
 
     /// Nothing was found yet. Takes no memory.
     pub fn new(alloc: Global, key: &[u8; 32]) -> Tally

@@ -1,17 +1,23 @@
--- What receipts prove of a run: a message tells its parts, and the count of a state is the position.
-use Rattle.mm_receipted.proofs.Below.{inl, inr, ◌≡◌, ◌≢◌, ℕ, suc, ◌+◌, ◌<◌, ◌≤◌, ◌^◌, List, [], ◌∷◌}
-use Rattle.mm_receipted.proofs.Below.{◌++◌, length, take, drop, Some, refl, sym, ◌∙◌, ap, arith, length-append, slice_get}
-use Rattle.mm_receipted.proofs.Below.{Ok, ◌⊎◌, last_position, longest_request, Meaning, outputs_from}
-use Rattle.mm_receipted.proofs.Below.{digits_of, receipt_of, parts_by, check_of_parts, check_of_receipt, ReceiptState, outcome_of}
-use Rattle.mm_receipted.proofs.Below.{first_receipt_state, spelling_of, receipted_module, IsKept, kept_of-spelling_of, outcome_of-IsKept}
+-- What receipts prove of a run: a message tells its parts, and the count of a state is the
+-- position. With it: what the code reads of a state.
 use Rattle.std.specs.List.{AllByRecursion}
+use Rattle.std.specs.Prelude.{None}
 use Rattle.std.proofs.lemmas.Bool.Decides.{nat_tests}
 use Rattle.std.proofs.lemmas.List.{drop-drop, take-append-drop}
 use Rattle.std.proofs.lemmas.Slice.Eq.{bytes_eq-Decides}
-use Rattle.mm_bytes.specs.Fields.{eight_bytes, four_bytes}
-use Rattle.mm_bytes.specs.FieldLaws.{length-eight_bytes, length-four_bytes, eight_bytes-injective, four_bytes-injective, append-injective}
+use Rattle.std.proofs.Math.ListN.{drop_of_length-le}
+use Rattle.mm_bytes.specs.DecimalLaws.{length-eight_bytes, length-four_bytes, eight_bytes-injective, four_bytes-injective, append-injective}
+use Rattle.mm_bytes.specs.Limits.{eight_bytes, four_bytes}
+use Rattle.mm_module.specs.Batch.{are_bytes}
+use Rattle.mm_receipted.specs.ReceiptListing.{IsTaggedBy, IsTagged, IsCounted, ReceiptsAreTrue, ReceiptsDoNotClash}
 use Rattle.mm_receipted.specs.Receipts.{receipt_front, receipt_message}
-use Rattle.mm_receipted.specs.TaggedMessages.{IsTaggedBy, IsTagged, IsCounted, ReceiptsAreTrue, ReceiptsDoNotClash}
+use Rattle.mm_receipted.specs.Table.{is_state}
+use Rattle.mm_receipted.proofs.Below.{inl, inr, ◌≡◌, ◌≢◌, ℕ, suc, ◌+◌, ◌<◌, ◌≤◌, ◌^◌, List, [], ◌∷◌, ◌++◌, length, take, drop, Some, refl}
+use Rattle.mm_receipted.proofs.Below.{sym, ◌∙◌, ap, arith, length-append, slice_get, Ok, ◌⊎◌, last_position, longest_request, Meaning}
+use Rattle.mm_receipted.proofs.Below.{outputs_from, digits_of, receipt_of, parts_by, check_of_parts, check_of_receipt, ReceiptState}
+use Rattle.mm_receipted.proofs.Below.{outcome_of, first_receipt_state, spelling_of, receipted_module, IsKept, kept_of-spelling_of}
+use Rattle.mm_receipted.proofs.Below.{outcome_of-IsKept, Bool, true, false, subst, rules, IsTrue, receipt_parts, is_front, receipt_state_in}
+use Rattle.mm_receipted.proofs.Below.{SpellsKept, SpellsKept-from, kept_of-IsKept, is-true}
 
 length-receipt_front : (position size : ℕ) → length (receipt_front position size) ≡ 16
 unfolding receipt_front
@@ -162,3 +168,42 @@ no-clash inner requests counted key position request output other said u v =
     let same : w.before ≡ z.before = omega (arith, w.place, z.place) in
     let asked = w.asked in let again = z.asked in let said_one = w.said in let said_two = z.said in
     (cc, cc)
+
+-- What the code reads of a state.
+
+-- too few bytes have no digits and a space
+pub parts_of-short : (output : List ℕ) → length output < 64 → receipt_parts output ≡ None
+parts_of-short output short =
+    let none : drop 64 output ≡ [] = drop_of_length-le output {i = 64} (omega (arith, short)) in
+    ap (λ (l : List ℕ). parts_by (take 64 output) l) none
+
+pub spelled-then : (inner : Meaning) (bytes : List ℕ) (answer : Bool) (kept : ReceiptState) → are_bytes bytes ≡ true → is_front bytes ≡ true
+    → answer ≡ inner.is_spelled kept.inner → kept ≡ receipt_state_in bytes → answer ≡ is_state inner bytes
+unfolding is_state
+spelled-then inner bytes answer kept all front is read = rw (is, read, all, front) refl
+
+pub spelled-else : (inner : Meaning) (bytes : List ℕ) → are_bytes bytes ≡ true → is_front bytes ≡ false → is_state inner bytes ≡ false
+unfolding is_state
+spelled-else inner bytes all front = rw (all, front) refl
+
+spelled-at : (inner : Meaning) (bytes : List ℕ) → IsTrue (is_state inner bytes) → SpellsKept inner bytes
+spelled-at inner bytes is = SpellsKept-from inner bytes (is-true (is_state inner bytes) is)
+
+-- a spelled state has its front
+pub long-at : (inner : Meaning) (bytes : List ℕ) → IsTrue (is_state inner bytes) → 41 ≤ length bytes
+long-at inner bytes is = (spelled-at inner bytes is).long
+
+-- where the count isn't the last, there is room for one more
+pub room-at : (inner : Meaning) (bytes : List ℕ) (kept : ReceiptState) → IsTrue (is_state inner bytes) → kept ≡ receipt_state_in bytes
+    → kept.count ≢ last_position → kept.count < last_position
+room-at inner bytes kept is read other =
+    let few : kept.count ≤ last_position = subst (λ (k : ReceiptState). k.count ≤ last_position) (sym read)
+    (kept_of-IsKept inner bytes (spelled-at inner bytes is)).few in
+    omega (arith, few, other)
+
+-- the state inside is spelled
+pub inside-at : (inner : Meaning) (bytes : List ℕ) (kept : ReceiptState) → IsTrue (is_state inner bytes) → kept ≡ receipt_state_in bytes
+    → IsTrue (inner.is_spelled kept.inner)
+inside-at inner bytes kept is read =
+    subst (λ (k : ReceiptState). IsTrue (inner.is_spelled k.inner)) (sym read)
+    (let e = (spelled-at inner bytes is).spelled in search (rules, e))

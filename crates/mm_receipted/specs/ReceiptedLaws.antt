@@ -7,18 +7,15 @@ use Rattle.std.proofs.lemmas.List.{length-take-le, length-drop}
 use Rattle.std.proofs.lemmas.List.Folds.{list_all-append}
 use Rattle.hex.specs.Hex.{lower_digits}
 use Rattle.hex.proofs.HexLemmas.{length-encode_with}
-use Rattle.mm_bytes.specs.Fields.{eight_bytes}
-use Rattle.mm_bytes.specs.Limits.{last_position, limit_of}
-use Rattle.mm_digest.specs.Hmac.{hmac_of}
+use Rattle.mm_bytes.specs.Limits.{eight_bytes, last_position, limit_of}
+use Rattle.mm_digest.specs.Messages.{hmac_of}
 use Rattle.mm_digest.specs.LengthLaws.{length-hmac_of}
-use Rattle.mm_module.specs.Bytes.{is_byte, are_bytes}
-use Rattle.mm_module.specs.LineLaws.{is_unbroken, and-true, and-both, IsText, is_unbroken-All}
+use Rattle.mm_module.specs.Batch.{is_byte, are_bytes, number_of_eight_bytes}
+use Rattle.mm_module.specs.LineLaws.{is_unbroken, and-true, and-both, IsText, is_unbroken-All, take-front, drop-front, are_bytes-take}
+use Rattle.mm_module.specs.LineLaws.{are_bytes-drop, are_bytes-append, are_bytes-All, length-eight, are_bytes-eight}
+use Rattle.mm_module.specs.LineLaws.{number_of_eight_bytes-eight, IsValue, MayBeValue, value_at-value, is_unbroken-encoded}
 use Rattle.mm_module.specs.Meaning.{Meaning, IsLawful, IsShort}
-use Rattle.mm_module.specs.Numbers.{number_of_eight_bytes}
-use Rattle.mm_module.specs.PartLaws.{take-front, drop-front, are_bytes-take, are_bytes-drop, are_bytes-append, are_bytes-All, length-eight}
-use Rattle.mm_module.specs.PartLaws.{are_bytes-eight, number_of_eight_bytes-eight}
-use Rattle.mm_module.specs.TableLaws.{Table, IsTable, is-true, table_is_lawful}
-use Rattle.mm_module.specs.ValueLaws.{IsValue, MayBeValue, value_at-value, is_unbroken-encoded}
+use Rattle.mm_module.specs.RunLaws.{Table, IsTable, is-true, table_is_lawful}
 use Rattle.mm_receipted.specs.Receipts.{receipt_message, digits_of}
 use Rattle.mm_receipted.specs.Table.{ReceiptState, outcome_of, first_receipt_state, key_bytes, spelling_of, is_keyed, is_front}
 use Rattle.mm_receipted.specs.Table.{receipt_state_after, receipt_state_in, is_state, receipted_module}

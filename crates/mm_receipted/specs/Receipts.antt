@@ -4,8 +4,8 @@ use Rattle.std.specs.Prelude.{Err, if◌then◌else◌}
 use Rattle.std.specs.List.{list_all}
 use Rattle.std.specs.Str.{bytes_eq}
 use Rattle.hex.specs.Hex.{encode_lower}
-use Rattle.mm_bytes.specs.Fields.{eight_bytes, four_bytes}
-use Rattle.mm_digest.specs.Hmac.{hmac_of}
+use Rattle.mm_bytes.specs.Limits.{eight_bytes, four_bytes}
+use Rattle.mm_digest.specs.Messages.{hmac_of}
 use Rattle.mm_receipted.specs.declared.receipt.NotReceipt.{NotReceipt}
 use Rattle.mm_receipted.specs.declared.receipt.NotReceipt.TheVariants.{Form, Tag}
 

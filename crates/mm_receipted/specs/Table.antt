@@ -2,13 +2,9 @@
 use Rattle.std.specs.Prelude.{ℕ, ◌+◌, ◌%◌, ◌==◌, ◌&&◌, ◌||◌, Bool, false, nat_le, List, [], ◌∷◌, ◌++◌, length, take, drop, replicate, codes}
 use Rattle.std.specs.Prelude.{Option, Some, None, if◌then◌else◌}
 use Rattle.std.specs.Str.{bytes_eq}
-use Rattle.mm_bytes.specs.Fields.{eight_bytes}
-use Rattle.mm_bytes.specs.Limits.{last_position}
-use Rattle.mm_module.specs.Bytes.{are_bytes}
-use Rattle.mm_module.specs.Meaning.{Meaning}
-use Rattle.mm_module.specs.Numbers.{number_of_eight_bytes}
-use Rattle.mm_module.specs.Values.{value_at}
-use Rattle.mm_module.specs.Words.{words_of}
+use Rattle.mm_bytes.specs.Limits.{eight_bytes, last_position}
+use Rattle.mm_module.specs.Batch.{are_bytes, number_of_eight_bytes}
+use Rattle.mm_module.specs.Meaning.{Meaning, value_at, words_of}
 use Rattle.mm_receipted.specs.Receipts.{receipt_of}
 
 -- how many requests were run, the key once it is set, and the state of the module inside

@@ -1,6 +1,6 @@
 //! What receipts prove of a run.
 
-ghost use Rattle.mm_receipted.specs.TaggedMessages.{ReceiptsAreTrue, ReceiptsDoNotClash};
+ghost use Rattle.mm_receipted.specs.ReceiptListing.{ReceiptsAreTrue, ReceiptsDoNotClash};
 
 /// A receipt that `verify` accepts, and whose message was tagged in a run, tells the request at its
 /// position and what was said to it.

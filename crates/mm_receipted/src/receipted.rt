@@ -2,10 +2,9 @@
 
 ghost use Rattle.std.specs.Prelude.{◌≡◌, ◌+◌, ◌++◌, ◌<◌, ◌≤◌, None, Some, IfOk, OnOk, IsTrue, length};
 ghost use Rattle.mm_bytes.specs.Limits.{last_position};
-ghost use Rattle.mm_module.specs.Meaning.{IsLine};
-ghost use Rattle.mm_module.specs.Words.{words_of};
+ghost use Rattle.mm_module.specs.Meaning.{IsLine, words_of};
 ghost use Rattle.mm_receipted.specs.Table.{key_of_words, keyed_text, outcome_without_key, receipted_module, outcome_under_key, key_bytes, key_in, is_keyed, is_front, receipt_state_after, receipt_state_in, spelling_of, outcome_of};
-ghost use Rattle.mm_receipted.specs.Views.{kept_state_of};
+ghost use Rattle.mm_receipted.specs.ReceiptListing.{kept_state_of};
 ghost use Rattle.mm_receipted.specs.ReceiptedLaws.{receipted_is_lawful};
 
 use crate::receipt::receipt;

@@ -1,4 +1,19 @@
--- What one call for a batch comes to by lists, in either variant.
+-- What one call for a batch comes to by lists, in either variant. With it: a line of at most 4,096
+-- bytes isn't too long to be asked, and its record fits a slot.
+use Rattle.std.specs.Prelude.{◌^◌}
+use Rattle.std.proofs.Common.{append_assoc}
+use Rattle.std.proofs.lemmas.List.Folds.{list_any_none}
+use Rattle.sha2.specs.Sha256.{sha256}
+use Rattle.mm_bytes.specs.DecimalLaws.{append-injective, eight_bytes-injective, length-eight_bytes}
+use Rattle.mm_bytes.specs.Limits.{eight_bytes, four_bytes}
+use Rattle.mm_base.specs.Input.{IsLineFront}
+use Rattle.mm_module.specs.Batch.{normal_batch}
+use Rattle.mm_model.specs.Moves.{is_lf}
+use Rattle.mm_call.specs.CallFinding.{Level}
+use Rattle.mm_call.specs.CallPremises.{standing_items}
+use Rattle.mm_call.proofs.Above.{grown_by, live_found, same_closed, sight_is}
+use Rattle.mm_call.proofs.OptAlike.{still}
+use Rattle.mm_store.specs.PendingRecord.{pending_front, pending_spelling, record_word, ReadsPendingRecord}
 use Rattle.mm_recovery.proofs.Below.{◌≡◌, ◌++◌, ℕ, false, List, Option, None, Some, Result, Ok, Err, refl, sym, ap, ◌∙◌, ◌⊎◌, Basic, Opt}
 use Rattle.mm_recovery.proofs.Below.{Item, Standing, StepFault, Meaning, IsLawful, Batch, Content, Instance, basic_instance, opt_instance}
 use Rattle.mm_recovery.proofs.Below.{History, RegisterEntry, Move, items_of_all, has_value, digests_of, NamesPosition, StandsFor}
@@ -6,14 +21,11 @@ use Rattle.mm_recovery.proofs.Below.{BatchAnswer, Refusal, Memory, IsAsked, IsWi
 use Rattle.mm_recovery.proofs.Below.{state_seen, CallContinues, IsCallOnCourse, Course, StepsWalk, walk, CallFinding, finding_at}
 use Rattle.mm_recovery.proofs.Below.{finding_unless_wanting, is_fresh, ask_steps, list_level, digest_level, state_after_moves, AreAsked}
 use Rattle.mm_recovery.proofs.Below.{AreShown, IsIdle, fault_of, stands_at, asked_for, asked_idle, basic_asked, names_made, basic_comes}
-use Rattle.mm_recovery.proofs.Below.{comes, HistoryGrows, Alike, alike_call, names_after, unlacked}
-use Rattle.mm_module.specs.Batch.{normal_batch}
-use Rattle.mm_call.specs.Levels.{Level}
-use Rattle.mm_call.specs.ShownItems.{standing_items}
-use Rattle.mm_call.proofs.Above.{grown_by, live_found, same_closed, sight_is}
-use Rattle.mm_call.proofs.OptAlike.{still}
+use Rattle.mm_recovery.proofs.Below.{comes, HistoryGrows, Alike, alike_call, names_after, unlacked, ◌≢◌, length, arith, nat_lt, list_any}
+use Rattle.mm_recovery.proofs.Below.{nat_tests, longest_request, One, is_long, ◌+◌, ◌≤◌, length-append, length-sha256, PendingRecord}
+use Rattle.mm_recovery.proofs.Below.{length-pending_front, ◌<◌, last_position}
+use Rattle.mm_recovery.proofs.Meeting.{IsIssued, issued_in_basic, issued_in_opt}
 use Rattle.mm_recovery.proofs.Refusing.{keeps_refused, judged_refused}
-use Rattle.mm_recovery.proofs.Slots.{IsIssued, issued_in_basic, issued_in_opt}
 
 -- what one call for a batch comes to, whatever is offered that names a position where it is right
 pub record BatchMet (all others : List (List ℕ)) (asked : List Batch) (i : Instance) (y : History) (standing : Standing)
@@ -133,3 +145,54 @@ module _ (meaning : Meaning) (lawful : IsLawful meaning) (key barrier : List ℕ
       → BatchMet all others asked (opt_instance meaning key barrier) y new offer (normal_batch batch) gives
   opt_batch_met_idle idle =
       opt_met_by (asked_idle meaning key barrier all others asked y c.course offer (normal_batch batch) a idle)
+
+-- A line of at most 4,096 bytes isn't too long to be asked, and its record fits a slot.
+
+not_lf : (byte : ℕ) → byte ≢ 10 → is_lf byte ≡ false
+not_lf byte h = grind (arith, nat_tests, h)
+
+pub askable : (request : List ℕ) → IsLineFront longest_request request → is_long (One request) ≡ false
+askable request w =
+    let short : nat_lt longest_request (length request) ≡ false = grind (arith, nat_tests, w.short) in
+    let unbroken : list_any is_lf request ≡ false = list_any_none is_lf request (λ k d h. not_lf _ (w.unbroken k d h)) in
+    rw (short, unbroken) refl
+
+pub length-pending_spelling : (p : PendingRecord) → length (pending_spelling p) ≡ 48 + length p.request
+unfolding pending_spelling
+length-pending_spelling p =
+    simp length-append (omega (arith, length-pending_front p, length-sha256 (pending_front p)))
+
+pub record_short : (p : PendingRecord) (bytes : List ℕ) → bytes ≡ pending_spelling p → length p.request ≤ longest_request
+    → length bytes ≤ 1100000
+record_short p bytes e h = omega (arith, ap length e, length-pending_spelling p)
+
+-- A record's bytes tell its position.
+
+regrouped : (a b c d e : List ℕ) → (a ++ (b ++ (c ++ d))) ++ e ≡ a ++ (b ++ (c ++ (d ++ e)))
+regrouped a b c d e = simp append_assoc
+
+front_position : (p q : PendingRecord) (a b : List ℕ) → p.position < 2 ^ 64 → q.position < 2 ^ 64
+    → pending_front p ++ a ≡ pending_front q ++ b → p.position ≡ q.position
+unfolding pending_front
+front_position p q a b hp hq e =
+    let same : record_word ++ (eight_bytes p.position ++ (four_bytes (length p.request) ++ (p.request ++ a)))
+    ≡ record_word ++ (eight_bytes q.position ++ (four_bytes (length q.request) ++ (q.request ++ b))) =
+    sym (regrouped record_word (eight_bytes p.position) (four_bytes (length p.request)) p.request a) ∙ e
+    ∙ regrouped record_word (eight_bytes q.position) (four_bytes (length q.request)) q.request b in
+    let first = append-injective record_word record_word
+    (eight_bytes p.position ++ (four_bytes (length p.request) ++ (p.request ++ a)))
+    (eight_bytes q.position ++ (four_bytes (length q.request) ++ (q.request ++ b))) refl same in
+    let second = append-injective (eight_bytes p.position) (eight_bytes q.position) (four_bytes (length p.request) ++ (p.request ++ a))
+    (four_bytes (length q.request) ++ (q.request ++ b)) (length-eight_bytes p.position ∙ sym (length-eight_bytes q.position)) first.1 in
+    eight_bytes-injective p.position q.position hp hq second.0
+
+spelled_position : (p q : PendingRecord) → p.position < 2 ^ 64 → q.position < 2 ^ 64 → pending_spelling p ≡ pending_spelling q
+    → p.position ≡ q.position
+unfolding pending_spelling
+spelled_position p q hp hq e = front_position p q (sha256 (pending_front p)) (sha256 (pending_front q)) hp hq e
+
+-- so a record behind the last position is none of a slot's
+pub beyond_none : (slot : ℕ) (bytes : List ℕ) (next : PendingRecord) → next.position ≡ last_position + 1 → bytes ≡ pending_spelling next
+    → ReadsPendingRecord slot bytes None
+beyond_none slot bytes next at is = λ p valid e.
+    omega (arith, valid.most, at, spelled_position next p (omega (arith, at)) (omega (arith, valid.most)) (sym is ∙ e))

@@ -7,7 +7,7 @@ use Rattle.mm_recovery.proofs.Below.{cell_spelling, Snapshot, BatchAnswer, Refus
 use Rattle.mm_recovery.proofs.Below.{batch_result_of, AskResult, goes_on, breaks_off, EndsByFinding, result_of, acts_for, answer_in}
 use Rattle.mm_recovery.proofs.Below.{fault_of, IsOrMemory, refused_result, CallReads, Long, StepsRefused, StepsBy, opt_call, StepsAnswered}
 use Rattle.mm_recovery.proofs.Below.{StepsFrom, CallWrites, IsNewAt, LeavesFlag, new_requests_by, [], ◌∷◌}
-use Rattle.mm_platform.specs.Steps.{Act}
+use Rattle.mm_platform.specs.Standing.{Act}
 use Rattle.mm_machine.specs.Acts.{remaining_acts}
 use Rattle.mm_call.specs.CallKind.{AreStepsToEnd}
 use Rattle.std.proofs.Math.Nat.{suc-add, zero-add}
@@ -17,12 +17,8 @@ use Rattle.mm_seal.specs.CellLaws.{reads_cell-same}
 use Rattle.mm_machine.specs.declared.change.Change as change
 use Rattle.mm_machine.specs.declared.change.Change.TheVariants.{Extending, Emptying, Placing, Writing}
 use Rattle.mm_machine.specs.declared.operation.OpFinding.TheVariants.{Repeat, Change}
-use Rattle.mm_opt.specs.BatchFinding.{BatchFinding}
-use Rattle.mm_opt.specs.CellSight.{cell_in}
-use Rattle.mm_opt.specs.Order.{has_lost_power}
-use Rattle.mm_opt.specs.Answers.{opened_cell, finding_from, finding_in_offer, finding_unless, finding_in}
-use Rattle.mm_opt.specs.Operation.{opt_operation}
-use Rattle.mm_opt.specs.AskPromise.{OptAskPromise}
+use Rattle.mm_opt.specs.Answers.{BatchFinding, has_lost_power, opened_cell, finding_from, finding_in_offer, finding_unless, finding_in}
+use Rattle.mm_opt.specs.AskPromise.{cell_in, opt_operation, OptAskPromise}
 use Rattle.mm_opt.proofs.Above.{ReadsOn, ReadsOwnCell, reads_told}
 
 -- counts

@@ -9,13 +9,13 @@ use Rattle.mm_recovery.proofs.Below.{HostGoesAfterAsk, HostGoesAfterOffer, HostG
 use Rattle.mm_recovery.proofs.Below.{IsSnapshotAt, FitsBy, IsAskedFor, AnswersAt, CanRecover, IsGrown, AsksIdly, ResumeComesTo}
 use Rattle.mm_recovery.proofs.Below.{RequestMayBeCommitted, HostRecovers, RecoversTo, one_reading, HostGoesAfterTwo, HostGoesAfterThree}
 use Rattle.mm_recovery.proofs.Below.{FitsHistory, IsWithin, HostStanding, host_standing}
-use Rattle.mm_recovery.specs.LastAnswer.{position_at, snapshot_at}
+use Rattle.mm_recovery.specs.HostStanding.{position_at, snapshot_at}
 use Rattle.mm_recovery.specs.declared.resuming.Resumed.TheVariants.{Answered}
-use Rattle.mm_recovery.proofs.Slots.{IsElsewhere, elsewhere_same, elsewhere_put, seen_put, holds_issued}
+use Rattle.mm_recovery.proofs.Meeting.{IsElsewhere, elsewhere_same, elsewhere_put, seen_put, holds_issued, Met, basic_met, opt_met}
+use Rattle.mm_recovery.proofs.Meeting.{refused_by}
 use Rattle.mm_recovery.proofs.Refusing.{holds_on, IsOffered, MayRefuse, waiting_most, awaited_least, still_awaited, grows, genuine_by}
 use Rattle.mm_recovery.proofs.Refusing.{answered_at}
 use Rattle.mm_recovery.proofs.Exits.{by_refusal}
-use Rattle.mm_recovery.proofs.Meeting.{Met, basic_met, opt_met, refused_by}
 use Rattle.mm_store.specs.declared.fault.StoreFault.TheVariants as fault
 
 -- one request waits in the slots' bytes

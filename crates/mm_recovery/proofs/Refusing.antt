@@ -8,15 +8,14 @@ use Rattle.mm_recovery.proofs.Below.{PartsFault, Move, Foreign, Life, life_of, i
 use Rattle.mm_recovery.proofs.Below.{call_ending_by, result_of_ending, call_outcome, Course, End, StepFate, StepsWalk, walk, walk_from_step}
 use Rattle.mm_recovery.proofs.Below.{moves_seen, state_seen, reading_steps, CallFinding, finding_by_verdict, finding_at, finding_with}
 use Rattle.mm_recovery.proofs.Below.{finding_unless_wanting, is_fresh, list_level}
-use Rattle.mm_call.specs.Levels.{Level}
+use Rattle.mm_call.specs.CallFinding.{Level, answer_on}
 use Rattle.mm_recovery.proofs.Below.{state_after_moves, check_of_verdict, same_batches, seen_none, fault_of, IsWaiting}
 use Rattle.mm_recovery.proofs.Below.{IsRefusedAs, call_commits, fresh_found, unlacked, found_with_tells, weighed_tells, unless_lost}
 use Rattle.mm_recovery.proofs.Below.{more_batches, Commits, nothing, batch, bytes_eq, nat_le, Full}
-use Rattle.mm_call.specs.Answers.{answer_on}
 use Rattle.std.proofs.lemmas.Bool.{le-leb}
 use Rattle.std.proofs.lemmas.Slice.Eq.{bytes_eq-Decides}
 use Rattle.mm_seal.specs.Parts.{parts_of}
-use Rattle.mm_seal.specs.SealLaws.{sealed_parts}
+use Rattle.mm_seal.specs.FieldLaws.{sealed_parts}
 use Rattle.mm_model.specs.Verdicts.{is_last, verdict_by_tests}
 
 pub one_more : (batches : List Batch) (request : List ℕ) → total_of (batches ++ One request ∷ []) ≡ total_of batches + 1

@@ -15,14 +15,12 @@ use Rattle.std.proofs.lemmas.List.{length-take}
 use Rattle.std.specs.List.{fold}
 use Rattle.std.specs.Result.{result_err}
 use Rattle.mm_bytes.specs.declared.fault.Failed.{Failed}
-use Rattle.mm_model.specs.HistoryWords.{values_of as entry_values}
-use Rattle.mm_model.specs.ChainLaws.{length-anchor_of, length-summary_of}
-use Rattle.mm_model.specs.DigestLaws.{register_folds}
-use Rattle.mm_store.specs.UnsyncedSlots.{UnsyncedSlots, unsynced_slots_with, unsynced_slots_with_mark}
-use Rattle.mm_recovery.specs.FirstStart.{CountRisesIf, is_platforms, is_sources, is_stores}
-use Rattle.mm_recovery.specs.InitFaults.{init_fault_as}
-use Rattle.mm_model.specs.FitLaws.{sealed_snapshot_of-most}
-use Rattle.mm_recovery.proofs.Slots.{IsIssued, issued_in_basic, issued_in_opt, holds_issued, fits_slot}
+use Rattle.mm_model.specs.History.{values_of as entry_values}
+use Rattle.mm_model.specs.ListLaws.{length-anchor_of, length-summary_of, register_folds}
+use Rattle.mm_store.specs.StoreStanding.{UnsyncedSlots, unsynced_slots_with, unsynced_slots_with_mark}
+use Rattle.mm_recovery.specs.FirstStart.{CountRisesIf, is_platforms, is_sources, is_stores, init_fault_as}
+use Rattle.mm_model.specs.FormLaws.{sealed_snapshot_of-most}
+use Rattle.mm_recovery.proofs.Meeting.{IsIssued, issued_in_basic, issued_in_opt, holds_issued, fits_slot}
 use Rattle.mm_platform.specs.CallLaws.{rose_by}
 use Rattle.mm_store.specs.declared.fault.StoreFault.TheVariants as fault
 

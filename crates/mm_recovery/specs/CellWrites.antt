@@ -1,9 +1,12 @@
 -- How often the cell is to be written: by one call, and by calls that are made one after another.
+-- With it: how the faults of a store and the refusals of a call are told.
 use Rattle.std.specs.Prelude.{◌≡◌, ◌+◌, ◌≤◌, ℕ, zero, suc, Bool, true, false, List, Option, None, Some, Result, Ok, Err}
+use Rattle.mm_model.specs.declared.refusal.Refusal.TheVariants as refusal
+use Rattle.mm_store.specs.declared.fault.StoreFault.TheVariants as fault
 use Rattle.mm_recovery.specs.Below.{Variant, Basic, Opt, IsCell, cell_spelling, Cell, Standing, StepFault, Answer, Refusal, fault_of}
-use Rattle.mm_recovery.specs.Below.{count_after_more, CellIsWrittenAtMostOnce}
+use Rattle.mm_recovery.specs.Below.{count_after_more, CellIsWrittenAtMostOnce, StoreFault}
 use Rattle.mm_recovery.specs.declared.fault.HostFault.{HostFault}
-use Rattle.mm_recovery.specs.declared.fault.HostFault.TheVariants.{Refused}
+use Rattle.mm_recovery.specs.declared.fault.HostFault.TheVariants.{Refused, Memory, Store}
 use Rattle.mm_recovery.specs.declared.resuming.Resumed.{Resumed}
 use Rattle.mm_recovery.specs.declared.resuming.Resumed.TheVariants.{Start, Answered}
 
@@ -90,3 +93,14 @@ pub record RequestWrites (variant : Variant) (before after : Standing)
   pub requests : ℕ
   pub new : IsNewOf result requests
   pub writes : CellIsWrittenFor variant requests before after
+
+-- How the faults of a store and the refusals of a call are told.
+
+abbrev pub store_fault_as : StoreFault → HostFault
+store_fault_as fault.Memory = Memory
+store_fault_as fault.Failed = Store
+
+-- want of memory is told as such
+abbrev pub refusal_fault : Refusal → HostFault
+refusal_fault refusal.Memory = Memory
+refusal_fault why = Refused why

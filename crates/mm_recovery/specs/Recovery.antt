@@ -9,9 +9,7 @@ use Rattle.mm_recovery.specs.declared.fault.HostFault.{HostFault}
 use Rattle.mm_recovery.specs.declared.fault.HostFault.TheVariants.{Refused}
 use Rattle.mm_recovery.specs.declared.resuming.Resumed.{Resumed}
 use Rattle.mm_recovery.specs.declared.resuming.Resumed.TheVariants.{Start, Answered}
-use Rattle.mm_recovery.specs.HostStanding.{HostStanding}
-use Rattle.mm_recovery.specs.SlotFit.{offer_slot, FitsHistory, IsSnapshotAt}
-use Rattle.mm_recovery.specs.LastAnswer.{position_at, snapshot_at}
+use Rattle.mm_recovery.specs.HostStanding.{HostStanding, offer_slot, FitsHistory, IsSnapshotAt, position_at, snapshot_at}
 
 -- What is asked for the request that waits: it is among those asked, and the messages of its offer
 -- are in the list.

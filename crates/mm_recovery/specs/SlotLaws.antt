@@ -3,9 +3,8 @@ use Rattle.std.specs.Prelude.{◌≡◌, ℕ, true, false, List, [], ◌∷◌, 
 use Rattle.std.specs.List.{Contains}
 use Rattle.mm_recovery.specs.Below.{start_message, Variant, Basic, Opt, Batch, Meaning, History, Move, history_after, Instance, IsClear}
 use Rattle.mm_recovery.specs.Below.{AreNoGuards, MayMove, IsSound, IsGenuine, has_commit, instance_by, PendingRecord, Slots}
-use Rattle.mm_recovery.specs.SlotFit.{first_offer, FitsHistory}
-use Rattle.mm_recovery.specs.Init.{Devices, host_among, instance_from}
-use Rattle.mm_recovery.specs.FirstStart.{first_history_on, first_slots, ShowsValues, InstanceBegins}
+use Rattle.mm_recovery.specs.HostStanding.{first_offer, FitsHistory}
+use Rattle.mm_recovery.specs.FirstStart.{Devices, host_among, instance_from, first_history_on, first_slots, ShowsValues, InstanceBegins}
 use Rattle.mm_recovery.specs.Recovery.{CanRecover}
 
 -- the slots fit the history, and this waits

@@ -2,10 +2,10 @@
 
 ghost use Rattle.std.specs.Prelude.{◌≡◌, false, IfOk, length};
 ghost use Rattle.mm_module.specs.Batch.{One};
-ghost use Rattle.mm_model.specs.Long.{is_long};
-ghost use Rattle.mm_call.specs.AskPromise.{AskPromise};
+ghost use Rattle.mm_model.specs.Moves.{is_long};
+ghost use Rattle.mm_call.specs.Checkpoints.{AskPromise};
 ghost use Rattle.mm_ask.specs.WholeAsk.{ask_call};
-ghost use Rattle.mm_recovery.specs.HostCall.{IsCall};
+ghost use Rattle.mm_recovery.specs.HostStanding.{IsCall};
 
 use mm_ask::{Ask, Caller};
 use mm_call::KeptKey;

@@ -1,7 +1,7 @@
 //! How the host program's calls fail.
 
 ghost use Rattle.std.specs.Prelude.{◌≡◌};
-ghost use Rattle.mm_recovery.specs.Faults.{refusal_fault, store_fault_as};
+ghost use Rattle.mm_recovery.specs.CellWrites.{refusal_fault, store_fault_as};
 
 use mm_model::Refusal;
 use mm_store::StoreFault;

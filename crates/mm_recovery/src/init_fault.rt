@@ -1,7 +1,7 @@
 //! How a first start fails.
 
 ghost use Rattle.std.specs.Prelude.{◌≡◌};
-ghost use Rattle.mm_recovery.specs.InitFaults.{init_fault_as};
+ghost use Rattle.mm_recovery.specs.FirstStart.{init_fault_as};
 ghost use Rattle.mm_recovery.specs.declared.init_fault.InitFault.TheVariants as init_fault;
 
 use mm_bytes::{Failed, Memory};

@@ -1,15 +1,12 @@
 //! Asking the next request, with its records in the store.
 
 ghost use Rattle.std.specs.Prelude.{◌≡◌, ◌+◌, ◌≤◌, ◌%◌, IfOk};
-ghost use Rattle.mm_base.specs.Lines.{IsLineFront};
+ghost use Rattle.mm_base.specs.Input.{IsLineFront};
 ghost use Rattle.mm_bytes.specs.Limits.{last_position, longest_request};
-ghost use Rattle.mm_store.specs.Calls.{WritesSlot};
+ghost use Rattle.mm_store.specs.StoreStanding.{WritesSlot};
 ghost use Rattle.mm_store.specs.PendingRecord.{pending_spelling};
-ghost use Rattle.mm_recovery.specs.Blame.{BlamesHostFault, IsNamed};
+ghost use Rattle.mm_recovery.specs.HostStanding.{BlamesHostFault, IsNamed, host_standing, IsSized, AsksNextRequest};
 ghost use Rattle.mm_recovery.specs.CellWrites.{RequestWrites};
-ghost use Rattle.mm_recovery.specs.HostStanding.{host_standing};
-ghost use Rattle.mm_recovery.specs.LastAnswer.{IsSized};
-ghost use Rattle.mm_recovery.specs.NextRequest.{AsksNextRequest};
 
 use crate::fault::HostFault;
 use crate::resuming::{Resumed, ask_and_keep};
@@ -50,7 +47,7 @@ pub fn ask_next<M: Module, P: Platform, T: Store>(
 }
 
 // Writes the record of a request, asks for it, and keeps the answer's snapshot.
-#[tactic(auto, using(crate::proofs::Askable::askable))]
+#[tactic(auto, using(crate::proofs::BatchMeeting::askable))]
 fn ask_next_inner<M: Module, P: Platform, T: Store>(
     caller: &Caller<M>,
     platform: &mut P,

@@ -2,14 +2,11 @@
 
 ghost use Rattle.std.specs.Prelude.{◌≡◌, ◌≤◌, IfOk, false, length};
 ghost use Rattle.mm_module.specs.Batch.{One};
-ghost use Rattle.mm_model.specs.Long.{is_long};
+ghost use Rattle.mm_model.specs.Moves.{is_long};
 ghost use Rattle.mm_store.specs.declared.store.TheConstants.{LONGEST_SLOT};
-ghost use Rattle.mm_recovery.specs.WaitingRequest.{IsAskable};
-ghost use Rattle.mm_recovery.specs.Blame.{BlamesHostFault, IsNamed};
+ghost use Rattle.mm_recovery.specs.HostStanding.{IsAskable, BlamesHostFault, IsNamed, StartsFromSlot, RepeatsPendingRecord};
+ghost use Rattle.mm_recovery.specs.HostStanding.{AsksAndKeepsAnswer, KeepsAnswer, HostResumes, host_standing, IsSized};
 ghost use Rattle.mm_recovery.specs.Recovery.{HostRecovers};
-ghost use Rattle.mm_recovery.specs.Resumption.{StartsFromSlot, RepeatsPendingRecord, AsksAndKeepsAnswer, KeepsAnswer, HostResumes};
-ghost use Rattle.mm_recovery.specs.HostStanding.{host_standing};
-ghost use Rattle.mm_recovery.specs.LastAnswer.{IsSized};
 ghost use Rattle.mm_recovery.specs.CellWrites.{RequestWrites};
 
 use crate::asking::ask;
@@ -34,7 +31,7 @@ pub enum Resumed {
 }
 
 impl Resumed {
-    ghost use Rattle.mm_recovery.specs.LastAnswer.{position_at, snapshot_at};
+    ghost use Rattle.mm_recovery.specs.HostStanding.{position_at, snapshot_at};
 
     /// The position of the last answer, and 0 at the start.
     pub fn position(&self) -> u64

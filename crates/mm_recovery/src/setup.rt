@@ -2,14 +2,14 @@
 
 ghost use Rattle.std.specs.Prelude.{◌≡◌, ◌<◌, ◌≤◌, ◌+◌, length, take, drop, IfOk};
 ghost use Rattle.std.specs.Io.KnownBytes.{ReadConsumes};
-ghost use Rattle.mm_bytes.specs.Faults.{CountsFaults};
+ghost use Rattle.mm_bytes.specs.Limits.{CountsFaults};
 ghost use Rattle.mm_seal.specs.Cell.{cell_spelling};
 ghost use Rattle.mm_model.specs.History.{first_history};
 ghost use Rattle.mm_model.specs.Standing.{cell_of, issued_bytes};
 ghost use Rattle.mm_store.specs.declared.store.TheConstants.{LONGEST_SLOT};
-ghost use Rattle.mm_recovery.specs.FirstStart.{InitLeaves, TellsUse, BlamesDevice};
+ghost use Rattle.mm_recovery.specs.FirstStart.{InitLeaves, TellsUse, BlamesDevice, devices, LooksAtCell, TakesBytes, taken_bytes};
+ghost use Rattle.mm_recovery.specs.FirstStart.{instance_from, PutsAll, first_puts, SetsUp, SetsUpBoth, TakesAndSetsUp, InitGoes};
 ghost use Rattle.mm_recovery.specs.HostStanding.{host_standing};
-ghost use Rattle.mm_recovery.specs.Init.{devices, LooksAtCell, TakesBytes, taken_bytes, instance_from, PutsAll, first_puts, SetsUp, SetsUpBoth, TakesAndSetsUp, InitGoes};
 
 use crate::init_fault::InitFault;
 use mm_ask::{Caller, Secrets};

@@ -3,9 +3,8 @@
 ghost use Rattle.std.specs.Prelude.{◌≡◌, ◌+◌, ◌^◌, IfOk, IfSome};
 ghost use Rattle.std.specs.Option.{option_map};
 ghost use Rattle.mm_store.specs.StoreStanding.{StoreStanding};
-ghost use Rattle.mm_store.specs.Records.{pending_of};
-ghost use Rattle.mm_recovery.specs.WaitingRequest.{IsAskable, TakesWaitingRequest, later_record};
-ghost use Rattle.mm_recovery.specs.Resumption.{FindsWaitingRequest};
+ghost use Rattle.mm_store.specs.PendingRecord.{pending_of};
+ghost use Rattle.mm_recovery.specs.HostStanding.{IsAskable, TakesWaitingRequest, later_record, FindsWaitingRequest};
 
 use mm_bytes::Bytes;
 use mm_store::{PendingRequest, Store, StoreFault, read_pending};

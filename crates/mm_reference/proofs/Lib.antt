@@ -1,2 +1,1 @@
 mod EntryLaws
-mod Runs

@@ -2,8 +2,8 @@
 
 ghost use Rattle.std.specs.Prelude.{◌≡◌};
 ghost use Rattle.mm_model.specs.History.{items_of_all};
-ghost use Rattle.mm_model.specs.Life.{has_value, are_own};
-ghost use Rattle.mm_model.specs.KeptHistory.{kept_batch, kept_batches, kept_entry, kept_entries, kept_segments, is_entry_of};
+ghost use Rattle.mm_model.specs.Standing.{has_value, are_own};
+ghost use Rattle.mm_model.specs.Verdicts.{kept_batch, kept_batches, kept_entry, kept_entries, kept_segments, is_entry_of};
 
 use mm_model::{KeptBatch, KeptEntry, some_value};
 

@@ -1,7 +1,7 @@
 //! What is said of every position of small histories, by computing the definitions.
 
 ghost use Rattle.std.specs.Prelude.{◌≡◌, [], ◌∷◌, codes};
-ghost use Rattle.mm_reference.specs.Examples.{basic_verdicts};
+ghost use Rattle.mm_reference.specs.Run.{basic_verdicts};
 ghost use Rattle.mm_model.specs.declared.verdict.Verdict.TheVariants.{Fresh, Again, Stale};
 
 /// Basic, after one request: the position before it is repeated by that request alone.

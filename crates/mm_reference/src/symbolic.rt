@@ -4,10 +4,9 @@ ghost use Rattle.std.specs.Prelude.{◌≡◌, ◌+◌, true, false, OnOk, OnErr
 ghost use Rattle.mm_digest.specs.declared.variant.Variant.TheVariants.{Basic, Opt};
 ghost use Rattle.mm_module.specs.Batch.{normal_batch, size_of};
 ghost use Rattle.mm_module.specs.Batches.{batch_of};
-ghost use Rattle.mm_model.specs.Instance.{Instance};
-ghost use Rattle.mm_model.specs.History.{Foreign, Reset, Close, Power, first_history, history_after, total_of};
+ghost use Rattle.mm_model.specs.Chains.{Instance};
+ghost use Rattle.mm_model.specs.History.{Foreign, Reset, Close, Power, first_history, history_after, total_of, with_batch};
 ghost use Rattle.mm_model.specs.Verdicts.{verdict_on};
-ghost use Rattle.mm_model.specs.CommitMoves.{with_batch};
 
 use crate::entries::{all_own, some_segment_has_value};
 use mm_bytes::Memory;
@@ -35,7 +34,7 @@ pub struct Symbolic {
 impl Model for Symbolic {
     ghost use Rattle.std.specs.Prelude.{◌≡◌};
     ghost use Rattle.mm_model.specs.History.{total_of};
-    ghost use Rattle.mm_model.specs.KeptHistory.{KeptHistory, kept_batches, kept_entries, kept_segments};
+    ghost use Rattle.mm_model.specs.Verdicts.{KeptHistory, kept_batches, kept_entries, kept_segments};
 
     ghost Value = { KeptHistory };
 

@@ -6,7 +6,7 @@ use Rattle.mm_play.specs.declared.player.ReplyFault.TheVariants as fault
 use Rattle.mm_schedule.specs.Events.{Event}
 use Rattle.mm_schedule.specs.declared.reply.Reply.{Reply}
 use Rattle.mm_replay.specs.Schedule.{RunningReplay, running_replay_after, is_too_much, running_outcome, replay_state_of, running_replay_at}
-use Rattle.mm_replay.specs.ReplayEvents.{ReplayLacksMemory}
+use Rattle.mm_replay.specs.Schedule.{ReplayLacksMemory}
 use Rattle.mm_replay.specs.declared.progress.ReplayProgress.{ReplayProgress}
 
 -- what stands, by digests

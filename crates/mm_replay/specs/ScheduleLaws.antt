@@ -3,10 +3,9 @@ use Rattle.std.specs.Prelude.{◌≡◌, ℕ, ◌+◌, ◌<◌, ◌^◌, List, O
 use Rattle.std.specs.Option.{option_map}
 use Rattle.std.proofs.Common.{sym, ap, arith}
 use Rattle.mm_schedule.specs.declared.header.Header.{Header}
-use Rattle.mm_schedule.specs.Events.{Event}
-use Rattle.mm_schedule.specs.Grammar.{event_at}
+use Rattle.mm_schedule.specs.Events.{Event, event_at}
 use Rattle.mm_schedule.specs.Headers.{header_at}
-use Rattle.mm_play.specs.HeadingStep.{HeadingStep, More, Begins}
+use Rattle.mm_play.specs.Headline.{HeadingStep, More, Begins}
 use Rattle.mm_play.specs.Stage.{answer_by}
 use Rattle.mm_play.specs.StageLaws.{same_stage}
 use Rattle.mm_replay.specs.Schedule.{ReplayState, replay_state_after, first_replay_state, replay_heads, replay_stage, replay_steps}

@@ -1,7 +1,7 @@
 //! The laws of replays, each the contract of a function that does nothing but call the laws that it
 //! follows from.
 
-ghost use Rattle.mm_replay.specs.Laws.{PremisesGiveOneRun, OneRunUntilEvidence, ReplaysGoOn};
+ghost use Rattle.mm_replay.specs.Schedule.{PremisesGiveOneRun, OneRunUntilEvidence, ReplaysGoOn};
 
 use mm_evidence::premises_or_evidence;
 use mm_outcome::schedules_go_on;

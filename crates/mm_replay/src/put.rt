@@ -2,7 +2,7 @@
 
 ghost use Rattle.std.specs.Prelude.{◌≡◌, ◌++◌, OnOk};
 ghost use Rattle.mm_schedule.specs.Replies.{IsPrintable};
-ghost use Rattle.mm_replay.specs.Text.{text_of_replies};
+ghost use Rattle.mm_replay.specs.Schedule.{text_of_replies};
 
 use mm_bytes::{Bytes, Memory};
 use mm_schedule::{Reply, put_line, reply_lines};

@@ -20,8 +20,7 @@ struct FollowedWorld {
 }
 
 impl Model for FollowedWorld {
-    ghost use Rattle.mm_replay.specs.ReplayEvents.{KeepsWorld, replay_state_in};
-    ghost use Rattle.mm_replay.specs.Schedule.{ReplayState};
+    ghost use Rattle.mm_replay.specs.Schedule.{KeepsWorld, replay_state_in, ReplayState};
 
     ghost Value = { ReplayState };
 
@@ -31,12 +30,11 @@ impl Model for FollowedWorld {
 }
 
 impl FollowedWorld {
-    ghost use Rattle.mm_replay.specs.Schedule.{replay_state_after, first_replay_state, outcome_of, replay_steps};
+    ghost use Rattle.mm_replay.specs.Schedule.{replay_state_after, first_replay_state, outcome_of, replay_steps, ReplayLacksMemory};
     ghost use Rattle.mm_schedule.specs.Replies.{IsPrintable, end_line};
-    ghost use Rattle.mm_play.specs.PutReply.{PutsReply};
+    ghost use Rattle.mm_play.specs.Headline.{PutsReply};
     ghost use Rattle.mm_play.specs.Stage.{StageAnswersEvent, answer_by};
-    ghost use Rattle.mm_replay.specs.ReplayEvents.{ReplayLacksMemory};
-    ghost use Rattle.mm_world.specs.Views.{event_of_view};
+    ghost use Rattle.mm_world.specs.Lengths.{event_of_view};
 
     // A new world, which followed none.
     fn new(alloc: Global, header: &Header) -> Result<FollowedWorld, Memory>
@@ -109,10 +107,9 @@ impl Model for ScheduleReplay {
 }
 
 impl ScheduleReplay {
-    ghost use Rattle.mm_replay.specs.Schedule.{replay_state_after, first_replay_state, outcome_of};
+    ghost use Rattle.mm_replay.specs.Schedule.{replay_state_after, first_replay_state, outcome_of, ReplayLacksMemory};
     ghost use Rattle.mm_schedule.specs.Events.{event_of};
     ghost use Rattle.mm_schedule.specs.Replies.{IsPrintable, end_line};
-    ghost use Rattle.mm_replay.specs.ReplayEvents.{ReplayLacksMemory};
 
     /// A replay at its first event.
     pub fn new(alloc: Global, header: &Header) -> Result<ScheduleReplay, Memory>
@@ -161,8 +158,7 @@ impl ScheduleReplay {
 
 impl PlayStage for ScheduleReplay {
     ghost use Rattle.mm_play.specs.Stage.{EventLacksMemory};
-    ghost use Rattle.mm_replay.specs.ReplayEvents.{ReplayLacksMemory};
-    ghost use Rattle.mm_replay.specs.Schedule.{replay_stage, replay_steps};
+    ghost use Rattle.mm_replay.specs.Schedule.{ReplayLacksMemory, replay_stage, replay_steps};
     ghost use Rattle.mm_replay.specs.ScheduleLaws.{counts_on};
 
     ghost plays = { replay_stage };

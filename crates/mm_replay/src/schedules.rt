@@ -1,10 +1,8 @@
 //! Schedules, from the header to the last line.
 
 ghost use Rattle.std.specs.Prelude.{◌≡◌, ℕ, List, Some, Ok};
-ghost use Rattle.mm_play.specs.Play.{outcome_of_input};
-ghost use Rattle.mm_play.specs.PlaysInput.{IsBlamed, IsUnrefused, is_read_fault, is_write_fault};
-ghost use Rattle.mm_replay.specs.Schedule.{ReplayStage, header_stage, schedule_answer, schedule_closing};
-ghost use Rattle.mm_replay.specs.WholeReplay.{ReplaysSchedule, ReportsReplay};
+ghost use Rattle.mm_play.specs.PlaysInput.{outcome_of_input, IsBlamed, IsUnrefused, is_read_fault, is_write_fault};
+ghost use Rattle.mm_replay.specs.Schedule.{ReplayStage, header_stage, schedule_answer, schedule_closing, ReplaysSchedule, ReportsReplay};
 
 use crate::heading::HeaderLine;
 use crate::replaying::ScheduleReplay;

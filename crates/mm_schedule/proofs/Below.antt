@@ -20,20 +20,15 @@ pub use Rattle.mm_platform.specs.declared.plan.Meddle.{Meddle}
 pub use Rattle.mm_platform.specs.declared.plan.Stop.{Stop}
 pub use Rattle.mm_platform.specs.declared.plan.Stop.TheVariants.{Cut, Drop, Fail, Quiet}
 pub use Rattle.mm_module.specs.Batch.{Batch, Many, members_of, One}
-pub use Rattle.mm_module.specs.Meaning.{Meaning, outputs_from, state_after}
-pub use Rattle.mm_module.specs.WordsWords.{is_space}
+pub use Rattle.mm_module.specs.Meaning.{Meaning, outputs_from, state_after, is_space}
 pub use Rattle.mm_modules.specs.Modules.{any_is_found, any_is_listed, meaning_of, module_of_name, name_of}
 pub use Rattle.mm_modules.proofs.Above.{name_spelled}
-pub use Rattle.mm_schedule.specs.Events.{Ask, Checkpoint, Event, Extend, meddles_of, Power}
-pub use Rattle.mm_schedule.specs.Grammar.{meddle_at, meddles_at}
-pub use Rattle.mm_schedule.specs.Machine.{IsTold, IsEventRun, IsRunStep}
-pub use Rattle.mm_schedule.specs.Replies.{lines_of_reply, told_lines}
-pub use Rattle.mm_schedule.specs.RepliesWords.{told_line}
-pub use Rattle.mm_schedule.specs.Spelling.{ask_call_text, SpellsBytes, SpellsEvent, SpellsMeddles, SpellsNumber, SpellsOffer, SpellsPrefix}
-pub use Rattle.mm_schedule.specs.Spelling.{SpellsStep, SpellsStop, SpellsValue}
-pub use Rattle.mm_schedule.specs.Tellings.{tellings_from, tellings_in, tellings_of, TellsWhatWasSaid}
-pub use Rattle.mm_schedule.specs.Texts.{meddles_behind}
-pub use Rattle.mm_schedule.specs.Words.{◌>>=◌, rest_after_prefix, bytes_at, word_at}
+pub use Rattle.mm_schedule.specs.Events.{Ask, Checkpoint, Event, Extend, meddles_of, Power, meddle_at, meddles_at, ask_call_text}
+pub use Rattle.mm_schedule.specs.Events.{SpellsBytes, SpellsEvent, SpellsMeddles, SpellsNumber, SpellsOffer, SpellsPrefix, SpellsStep}
+pub use Rattle.mm_schedule.specs.Events.{SpellsStop, SpellsValue, meddles_behind}
+pub use Rattle.mm_schedule.specs.Replies.{IsTold, IsEventRun, IsRunStep, lines_of_reply, told_lines, told_line, tellings_from, tellings_in}
+pub use Rattle.mm_schedule.specs.Replies.{tellings_of, TellsWhatWasSaid}
+pub use Rattle.mm_schedule.specs.Headers.{◌>>=◌, rest_after_prefix, bytes_at, word_at}
 pub use Rattle.mm_schedule.specs.declared.event.Offer.{Offer}
 pub use Rattle.mm_schedule.specs.declared.event.Offer.TheVariants.{Flip, Last, Number, Raw}
 pub use Rattle.mm_schedule.specs.declared.reply.Reply.{Reply}

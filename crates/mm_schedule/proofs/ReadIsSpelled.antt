@@ -1,17 +1,67 @@
+-- What is read of a line is spelled there. With it: what a reading that gave something found, and
+-- what stood in front of it; lines that ask at once.
+use Rattle.std.proofs.lemmas.List.Quantifiers.{position-Some}
+use Rattle.std.proofs.lemmas.Slice.Eq.{bytes_eq-Decides}
+use Rattle.mm_bytes.specs.Limits.{decimal_number}
+use Rattle.mm_module.specs.Meaning.{value_at}
+use Rattle.mm_schedule.specs.Events.{call_at, event_at, fail_stop_at, meddle_at, meddles_at, offer_at, prefixed_call_at, raw_offer_at}
+use Rattle.mm_schedule.specs.Events.{stop_at, stop_step_at, flip_at, ask_at}
+use Rattle.mm_schedule.specs.Headers.{rest_after_prefix, word_at, bytes_at, number_at, step_at}
+use Rattle.mm_schedule.proofs.Below.{◌≡◌, ◌+◌, ◌<◌, ◌⊎◌, inl, inr, ℕ, suc, Bool, true, false, List, ◌∷◌, ◌++◌, length, take, drop, get_or}
+use Rattle.mm_schedule.proofs.Below.{refl, sym, ap, ◌∙◌, arith, cond, add-one, drop-cons, nat_tests, take-append-drop, position}
+use Rattle.mm_schedule.proofs.Below.{option_map_or, Option, Some, None, bytes_eq, is_space, ◌>>=◌, ◌-◌, ◌≤◌, zero, [], append_assoc, subst}
+use Rattle.mm_schedule.proofs.Below.{decimal_digit, Result, Ok, Err, codes, nat_lt, ◌&&◌, ◌==◌, result_ok, FromHexError, decode_of}
+use Rattle.mm_schedule.proofs.Below.{decode_sized, spelled_by_reading, One, Many, Meddle, Stop, Fail, Offer, Last, Event, Checkpoint, Power}
+use Rattle.mm_schedule.proofs.Below.{SpellsBytes, SpellsEvent, SpellsMeddles, SpellsNumber, SpellsOffer, SpellsPrefix, SpellsStep}
+use Rattle.mm_schedule.proofs.Below.{SpellsStop, SpellsValue, ask_call_text, Quiet}
+
+-- What a reading that gave something found, and what stood in front of it.
+
+-- a reading that gave something gave something at its first part
+pub bind-some : {A B : Type 0} (first : Option A) (then : A → Option B) (y : B) → (first >>= then) ≡ Some y
+    → (x : A) × (first ≡ Some x) × (then x ≡ Some y)
+bind-some None then y is = cc
+bind-some (Some x) then y is = (x, refl, is)
+
+-- a choice that gave something took one of its ways
+pub chosen : {A : Type 0} (test : Bool) (taken passed : Option A) (y : A) → cond test taken passed ≡ Some y
+    → ((test ≡ true) × (taken ≡ Some y)) ⊎ ((test ≡ false) × (passed ≡ Some y))
+chosen true taken passed y is = inl (refl, is)
+chosen false taken passed y is = inr (refl, is)
+
+pub found_or : {A B : Type 0} (found : Option A) (then : A → Option B) (other : Option B) (y : B) → option_map_or then found other ≡ Some y
+    → ((x : A) × (found ≡ Some x) × (then x ≡ Some y)) ⊎ ((found ≡ None) × (other ≡ Some y))
+found_or None then other y is = inr (refl, is)
+found_or (Some x) then other y is = inl (x, refl, is)
+
+pub some-same : {A : Type 0} (x y : A) → Some x ≡ Some y → x ≡ y
+some-same x y is = cc
+
+pub text_is : (text other : List ℕ) → bytes_eq text other ≡ true → text ≡ other
+text_is text other same = (bytes_eq-Decides text other).0 same
+
+-- a prefix stands in front
+pub after-front : (prefix line rest : List ℕ) → rest_after_prefix prefix line ≡ Some rest → line ≡ prefix ++ rest
+unfolding rest_after_prefix
+after-front prefix line rest is =
+    elim (chosen (bytes_eq (take (length prefix) line) prefix) (Some (drop (length prefix) line)) None rest is) [
+      | inl w ↦ sym (take-append-drop (length prefix) line) ∙ ap (λ (front : List ℕ). front ++ drop (length prefix) line)
+          (text_is (take (length prefix) line) prefix w.0) ∙ ap (λ (back : List ℕ). prefix ++ back) (some-same _ _ w.1)
+      | inr w ↦ cc
+    ]
+
+pub word-front : (line word rest : List ℕ) → word_at line ≡ Some (word, rest) → line ≡ word ++ 32 ∷ rest
+unfolding word_at
+word-front line word rest is =
+    let read = bind-some (position is_space line) (λ (at : ℕ). Some (take at line, drop (at + 1) line)) (word, rest) is in
+    let at = read.0 in let facts = position-Some is_space line at 0 read.1 in let within : at < length line = facts.0 in
+    let space : get_or line at 0 ≡ 32 = grind (arith, nat_tests, facts.1) in
+    let parts : (take at line, drop (at + 1) line) ≡ (word, rest) = some-same _ _ read.2 in
+    sym (take-append-drop at line) ∙ ap (λ (back : List ℕ). take at line ++ back) (drop-cons line at 0 within
+    ∙ ap (λ (b : ℕ). b ∷ drop (suc at) line) space) ∙ ap (λ (n : ℕ). take at line ++ 32 ∷ drop n line) (sym (add-one at))
+    ∙ ap (λ (p : List ℕ × List ℕ). p.0 ++ 32 ∷ p.1) parts
+
 -- What is read of a line is spelled there.
-use Rattle.mm_schedule.proofs.Below.{◌≡◌, ◌+◌, ◌-◌, ◌<◌, ◌≤◌, inl, inr, ℕ, zero, suc, true, false, List, [], ◌∷◌, ◌++◌, length, refl, sym}
-use Rattle.mm_schedule.proofs.Below.{ap, ◌∙◌, arith, cond, append_assoc, subst, nat_tests, decimal_digit, Some, None, Result, Ok, Err}
-use Rattle.mm_schedule.proofs.Below.{codes, nat_lt, ◌&&◌, ◌==◌, result_ok, bytes_eq, FromHexError, decode_of, decode_sized}
-use Rattle.mm_schedule.proofs.Below.{spelled_by_reading, One, Many, Meddle, Stop, Fail, Offer, Last, Event, Checkpoint, Power, SpellsBytes}
-use Rattle.mm_schedule.proofs.Below.{SpellsEvent, SpellsMeddles, SpellsNumber, SpellsOffer, SpellsPrefix, SpellsStep, SpellsStop}
-use Rattle.mm_schedule.proofs.Below.{SpellsValue, ask_call_text, rest_after_prefix, word_at}
-use Rattle.mm_bytes.specs.Decimals.{decimal_number}
-use Rattle.mm_schedule.specs.Grammar.{call_at, event_at, fail_stop_at, meddle_at, meddles_at, offer_at, prefixed_call_at, raw_offer_at}
-use Rattle.mm_schedule.specs.Grammar.{stop_at, stop_step_at}
-use Rattle.mm_schedule.specs.GrammarWords.{flip_at}
-use Rattle.mm_module.specs.Values.{value_at}
-use Rattle.mm_schedule.specs.Words.{bytes_at, number_at, step_at}
-use Rattle.mm_schedule.proofs.Fronts.{bind-some, chosen, found_or, some-same, text_is, after-front, word-front}
 
 step-spelled : (word : List ℕ) (step : ℕ) → step_at word ≡ Some step → SpellsStep step word
 unfolding step_at
@@ -323,3 +373,13 @@ event_spelled line event is = elim (chosen (bytes_eq line (codes "power")) (Some
     | inr v ↦ prefixed-spelled line event v.1
   ]
 ]
+
+-- Lines that ask at once.
+
+-- nothing stands in front of what such a line asks
+asks_so : (rest : List ℕ) → event_at (codes "ask " ++ rest) ≡ ask_at [] Quiet rest
+unfolding event_at prefixed_call_at meddles_at stop_at call_at rest_after_prefix
+asks_so rest = refl
+
+pub asks_at_once : (line rest : List ℕ) → rest_after_prefix (codes "ask ") line ≡ Some rest → event_at line ≡ ask_at [] Quiet rest
+asks_at_once line rest is = rw (after-front (codes "ask ") line rest is) (asks_so rest)

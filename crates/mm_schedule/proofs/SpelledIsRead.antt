@@ -1,4 +1,20 @@
--- What is spelled in a line is read of it.
+-- What is spelled in a line is read of it. With it: a header has one line, and that line is read as
+-- it.
+use Rattle.std.specs.Char.{is_ascii_digit}
+use Rattle.std.specs.Fmt.{decimal}
+use Rattle.std.proofs.lemmas.Bool.{ne_eqb}
+use Rattle.std.proofs.lemmas.List.Elements.{All-head, All-tail}
+use Rattle.std.proofs.lemmas.Str.Parse.{numerals_by_value, tells_all_ascii_digits}
+use Rattle.mm_bytes.specs.Limits.{decimal_number}
+use Rattle.mm_digest.specs.declared.variant.Variant.{Variant}
+use Rattle.mm_digest.specs.declared.variant.Variant.TheVariants.{Basic, Opt}
+use Rattle.mm_module.specs.Meaning.{value_at}
+use Rattle.mm_modules.specs.declared.any.AnyModule.{AnyModule}
+use Rattle.mm_schedule.specs.declared.header.Header.{Header}
+use Rattle.mm_schedule.specs.Events.{call_at, event_at, fail_stop_at, meddle_at, meddles_at, offer_at, prefixed_call_at, raw_offer_at}
+use Rattle.mm_schedule.specs.Events.{stop_at, stop_step_at, flip_at}
+use Rattle.mm_schedule.specs.Headers.{rest_after_prefix, bytes_at, number_at, step_at, word_at, header_of_words, head_text, header_at}
+use Rattle.mm_schedule.specs.Headers.{header_text, variant_text, variant_at}
 use Rattle.mm_schedule.proofs.Below.{◌≡◌, ◌≢◌, ◌+◌, ◌-◌, ◌<◌, ◌≤◌, ◌^◌, inl, inr, ℕ, zero, suc, Bool, true, false, List, [], ◌∷◌, ◌++◌}
 use Rattle.mm_schedule.proofs.Below.{length, refl, sym, ap, ◌∙◌, arith, append_assoc, subst, take-append_seam, drop-append-add, nat_tests}
 use Rattle.mm_schedule.proofs.Below.{decimal_digit, digits_decimal, length-append, list_all, position, position_or_len, AllPass, Option}
@@ -6,19 +22,8 @@ use Rattle.mm_schedule.proofs.Below.{Some, None, Ok, codes, nat_lt, ◌||◌, �
 use Rattle.mm_schedule.proofs.Below.{decode_of-ok, decode_sized-ok, decode_sized-twice, read_by_spelling, Batch, One, Many, Meddle, Stop}
 use Rattle.mm_schedule.proofs.Below.{Quiet, Cut, Drop, Fail, is_space, Offer, Number, Last, Flip, Raw, Event, Ask, Checkpoint, Power}
 use Rattle.mm_schedule.proofs.Below.{Extend, SpellsBytes, SpellsEvent, SpellsMeddles, SpellsNumber, SpellsOffer, SpellsPrefix, SpellsStep}
-use Rattle.mm_schedule.proofs.Below.{SpellsStop, SpellsValue, ask_call_text}
-use Rattle.std.proofs.lemmas.Bool.{ne_eqb}
-use Rattle.std.proofs.lemmas.List.Elements.{All-head, All-tail}
-use Rattle.std.proofs.lemmas.Str.Parse.{numerals_by_value, tells_all_ascii_digits}
-use Rattle.std.specs.Char.{is_ascii_digit}
-use Rattle.std.specs.Fmt.{decimal}
-use Rattle.mm_bytes.specs.Decimals.{decimal_number}
-use Rattle.mm_schedule.specs.Grammar.{call_at, event_at, fail_stop_at, meddle_at, meddles_at, offer_at, prefixed_call_at, raw_offer_at}
-use Rattle.mm_schedule.specs.Grammar.{stop_at, stop_step_at}
-use Rattle.mm_schedule.specs.GrammarWords.{flip_at}
-use Rattle.mm_module.specs.Values.{value_at}
-use Rattle.mm_schedule.specs.Words.{rest_after_prefix, bytes_at, number_at, step_at, word_at}
-use Rattle.mm_schedule.proofs.Fronts.{after-front, text_is}
+use Rattle.mm_schedule.proofs.Below.{SpellsStop, SpellsValue, ask_call_text, IfSome, module_of_name, name_of, any_is_found, name_spelled}
+use Rattle.mm_schedule.proofs.ReadIsSpelled.{after-front, text_is, bind-some, chosen, some-same, word-front}
 
 -- no space is among the bytes
 abbrev pub NoSpace : List ℕ → Type 0
@@ -310,3 +315,61 @@ spelled_is_read line (Checkpoint meddles stop) spelled =
     prefixed-again meddles stop line (codes "checkpoint") (Checkpoint meddles stop) spelled (checkpoint-call meddles stop)
 spelled_is_read line Power spelled = rw spelled refl
 spelled_is_read line (Extend value) spelled = rw (spelled.2, value-again value spelled.0 spelled.1) refl
+
+-- A header has one line, and that line is read as it.
+
+variant-spelled : (word : List ℕ) (variant : Variant) → variant_at word ≡ Some variant → word ≡ variant_text variant
+variant-spelled word variant is = elim (chosen (bytes_eq word (codes "basic")) (Some Basic) _ variant is) [
+  | inl w ↦ text_is word (codes "basic") w.0 ∙ ap variant_text (some-same Basic variant w.1)
+  | inr w ↦ elim (chosen (bytes_eq word (codes "opt")) (Some Opt) None variant w.1) [
+    | inl v ↦ text_is word (codes "opt") v.0 ∙ ap variant_text (some-same Opt variant v.1)
+    | inr v ↦ cc
+  ]
+]
+
+pub head-spelled : (words : List ℕ) (head : Header) → header_of_words words ≡ Some head → words ≡ head_text head
+unfolding header_of_words
+head-spelled words head is =
+    let b = bind-some (word_at words) _ head is in let c = bind-some (variant_at b.0.0) _ head b.2 in
+    let d = bind-some (module_of_name b.0.1) _ head c.2 in
+    word-front words b.0.0 b.0.1 b.1 ∙ ap (λ (word : List ℕ). word ++ 32 ∷ b.0.1) (variant-spelled b.0.0 c.0 c.1)
+    ∙ ap (λ (name : List ℕ). variant_text c.0 ++ 32 ∷ name) (name_spelled b.0.1 d.0 d.1) ∙ ap head_text (some-same _ head d.2)
+
+pub header-spelled : (line : List ℕ) (header : Header) → header_at line ≡ Some header → line ≡ header_text header
+unfolding header_at
+header-spelled line header is =
+    let a = bind-some (rest_after_prefix (codes "memoir 1 ") line) _ header is in
+    after-front (codes "memoir 1 ") line a.0 a.1 ∙ ap (λ (back : List ℕ). codes "memoir 1 " ++ back) (head-spelled a.0 header a.2)
+
+variant-again : (variant : Variant) → variant_at (variant_text variant) ≡ Some variant
+variant-again Basic = refl
+variant-again Opt = refl
+
+variant-spaceless : (variant : Variant) → NoSpace (variant_text variant)
+variant-spaceless Basic = letters (codes "basic") refl
+variant-spaceless Opt = letters (codes "opt") refl
+
+-- each spelling is read as its header
+head-again : (variant : Variant) (it : AnyModule)
+    → header_of_words (head_text (record { variant = variant; «module» = it })) ≡ Some (record { variant = variant; «module» = it })
+unfolding header_of_words
+head-again variant it =
+    rw (word-again (variant_text variant) (name_of it) (variant-spaceless variant), variant-again variant, (any_is_found it).by_name) refl
+
+pub head-read : (words : List ℕ) (head : Header) → words ≡ head_text head → header_of_words words ≡ Some head
+head-read words head is = ap header_of_words is ∙ head-again head.variant head.module
+
+behind_prefix : (words : List ℕ) → header_at (codes "memoir 1 " ++ words) ≡ header_of_words words
+unfolding header_at rest_after_prefix
+behind_prefix words = refl
+
+pub header-read : (line : List ℕ) (header : Header) → line ≡ header_text header → header_at line ≡ Some header
+header-read line header is = ap header_at is ∙ behind_prefix (head_text header) ∙ head-again header.variant header.module
+
+pub if-head-spelled : (words : List ℕ) (read : Option Header) → read ≡ header_of_words words → IfSome read (λ head. words ≡ head_text head)
+if-head-spelled words None is = tt
+if-head-spelled words (Some head) is = head-spelled words head (sym is)
+
+pub if-spelled : (line : List ℕ) (read : Option Header) → read ≡ header_at line → IfSome read (λ header. line ≡ header_text header)
+if-spelled line None is = tt
+if-spelled line (Some header) is = header-spelled line header (sym is)

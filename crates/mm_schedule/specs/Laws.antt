@@ -2,10 +2,8 @@
 use Rattle.std.specs.Prelude.{◌≡◌, ℕ, List, ◌++◌, Some}
 use Rattle.mm_module.specs.Meaning.{Meaning}
 use Rattle.mm_schedule.specs.declared.reply.Reply.{Reply}
-use Rattle.mm_schedule.specs.Events.{Event}
-use Rattle.mm_schedule.specs.Grammar.{event_at}
-use Rattle.mm_schedule.specs.Machine.{IsEventRun}
-use Rattle.mm_schedule.specs.Spelling.{SpellsEvent}
+use Rattle.mm_schedule.specs.Events.{Event, event_at, SpellsEvent}
+use Rattle.mm_schedule.specs.Replies.{IsEventRun}
 
 -- the events and the replies fix the requests that are run
 abbrev pub RunIsFixed : Type 0

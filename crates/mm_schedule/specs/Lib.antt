@@ -1,14 +1,4 @@
 pub mod Events
-pub mod Grammar
 pub mod Headers
 pub mod Laws
-pub mod Machine
-pub mod Promises
 pub mod Replies
-pub mod Spelling
-pub mod Tellings
-pub mod Texts
-pub mod Words
-pub mod HeadersWords
-pub mod RepliesWords
-pub mod GrammarWords

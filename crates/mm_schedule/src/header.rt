@@ -1,8 +1,7 @@
 //! The first line of a schedule.
 
 ghost use Rattle.std.specs.Prelude.{◌≡◌, ◌++◌, Some, IfSome, OnOk};
-ghost use Rattle.mm_schedule.specs.Headers.{header_of_words, head_text, header_at, header_text, variant_text};
-ghost use Rattle.mm_schedule.specs.HeadersWords.{variant_at};
+ghost use Rattle.mm_schedule.specs.Headers.{header_of_words, head_text, header_at, header_text, variant_text, variant_at};
 
 use crate::words::{after, is_text, word_in};
 use mm_bytes::{Bytes, Memory};

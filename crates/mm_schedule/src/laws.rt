@@ -1,8 +1,7 @@
 //! Laws of the grammar, and of the machine's runs.
 
 ghost use Rattle.mm_schedule.specs.Laws.{RunIsFixed, RunsGoOn, SpelledIsRead};
-ghost use Rattle.mm_schedule.specs.Promises.{RunsKeepPromises};
-ghost use Rattle.mm_schedule.specs.Tellings.{TellsWhatWasSaid};
+ghost use Rattle.mm_schedule.specs.Replies.{RunsKeepPromises, TellsWhatWasSaid};
 
 /// The events and the replies fix the requests that are run.
 pub fn run_is_fixed()

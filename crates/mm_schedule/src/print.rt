@@ -3,8 +3,7 @@
 ghost use Rattle.std.specs.Prelude.{◌≡◌, ◌+◌, ◌<◌, ◌≤◌, ◌++◌, [], ◌∷◌, Some, codes, length, take, slice_get};
 ghost use Rattle.std.specs.Fmt.{decimal};
 ghost use Rattle.mm_bytes.specs.Limits.{longest_request};
-ghost use Rattle.mm_schedule.specs.Replies.{IsPrintable, lines_of_reply, way_text};
-ghost use Rattle.mm_schedule.specs.RepliesWords.{told_line, told_text};
+ghost use Rattle.mm_schedule.specs.Replies.{IsPrintable, lines_of_reply, way_text, told_line, told_text};
 
 use crate::reply::{Reply, Way};
 use itoa::Buffer;

@@ -2,8 +2,7 @@
 
 ghost use Rattle.std.specs.Prelude.{◌≡◌, ◌+◌, ◌<◌, ◌≤◌, ◌++◌, [], ◌∷◌, ℕ, List, Some, codes, length, slice_get, OnOk};
 ghost use Rattle.std.specs.Fmt.{decimal};
-ghost use Rattle.mm_schedule.specs.Replies.{end_line, IsPrintable, lines_of_reply, way_text};
-ghost use Rattle.mm_schedule.specs.RepliesWords.{told_line};
+ghost use Rattle.mm_schedule.specs.Replies.{end_line, IsPrintable, lines_of_reply, way_text, told_line};
 
 use crate::print::{output_at, told_word};
 use crate::reply::{Reply, Way};

@@ -1,9 +1,7 @@
 //! Reading an event line.
 
 ghost use Rattle.std.specs.Prelude.{◌≡◌, ◌↔◌, Some, None, IfOk, IsErrOf};
-ghost use Rattle.mm_schedule.specs.Events.{event_of};
-ghost use Rattle.mm_schedule.specs.Grammar.{event_at};
-ghost use Rattle.mm_schedule.specs.Spelling.{SpellsEvent};
+ghost use Rattle.mm_schedule.specs.Events.{event_of, event_at, SpellsEvent};
 
 use crate::event::{Event, Meddles};
 use crate::fault::EventFault;

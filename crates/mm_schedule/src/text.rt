@@ -4,11 +4,10 @@ ghost use Rattle.std.specs.Prelude.{◌≡◌, ◌+◌, ◌-◌, ◌<◌, ◌≤
 ghost use Rattle.std.specs.Option.{option_map};
 ghost use Rattle.mm_platform.specs.declared.plan.Meddle.{Meddle};
 ghost use Rattle.mm_schedule.specs.declared.fault.EventFault.{EventFault};
-ghost use Rattle.mm_schedule.specs.Events.{event_of, meddles_of};
-ghost use Rattle.mm_schedule.specs.Grammar.{call_at, event_at, fail_stop_at, meddle_at, meddles_at, offer_at, prefixed_call_at, raw_offer_at, stop_at, stop_step_at};
-ghost use Rattle.mm_schedule.specs.GrammarWords.{ask_at, cut_at, drop_at, flip_at};
-ghost use Rattle.mm_schedule.specs.Texts as texts;
-ghost use Rattle.mm_schedule.specs.Words.{bytes_at};
+ghost use Rattle.mm_schedule.specs.Events.{event_of, meddles_of, call_at, event_at, fail_stop_at, meddle_at, meddles_at, offer_at};
+ghost use Rattle.mm_schedule.specs.Events.{prefixed_call_at, raw_offer_at, stop_at, stop_step_at, ask_at, cut_at, drop_at, flip_at};
+ghost use Rattle.mm_schedule.specs.Events as texts;
+ghost use Rattle.mm_schedule.specs.Headers.{bytes_at};
 
 use crate::event::{Event, Meddles, Offer};
 use crate::fault::EventFault;
@@ -61,7 +60,7 @@ pub fn event_in<'a>(line: &'a [u8], meddles: &mut Meddles) -> Option<EventText<'
 }
 
 /// The same, whatever the line begins with.
-#[tactic(auto, unfolding(crate::specs::Grammar::event_at))]
+#[tactic(auto, unfolding(crate::specs::Events::event_at))]
 fn any_event_in<'a>(line: &'a [u8], meddles: &mut Meddles) -> Option<EventText<'a>>
     ensures { option_map (texts.event_in (meddles_of meddles.new)) result ≡ event_at line.now }
 {
@@ -76,7 +75,7 @@ fn any_event_in<'a>(line: &'a [u8], meddles: &mut Meddles) -> Option<EventText<'
 }
 
 /// A call with what comes before it.
-#[tactic(auto, unfolding(crate::specs::Grammar::prefixed_call_at))]
+#[tactic(auto, unfolding(crate::specs::Events::prefixed_call_at))]
 fn prefixed_in<'a>(line: &'a [u8], meddles: &mut Meddles) -> Option<EventText<'a>>
     ensures { option_map (texts.event_in (meddles_of meddles.new)) result
         ≡ prefixed_call_at line.now }
@@ -87,7 +86,7 @@ fn prefixed_in<'a>(line: &'a [u8], meddles: &mut Meddles) -> Option<EventText<'a
 }
 
 /// The call behind its meddles and its stop.
-#[tactic(auto, unfolding(crate::specs::Grammar::call_at))]
+#[tactic(auto, unfolding(crate::specs::Events::call_at))]
 fn call_in(stop: Stop, line: &[u8]) -> Option<EventText<'_>>
     ensures { (meddles : List Meddle)
         → option_map (texts.event_in meddles) result ≡ call_at meddles stop line.now }
@@ -123,7 +122,7 @@ fn ask_in(stop: Stop, words: &[u8]) -> Option<EventText<'_>>
 
 /// The offer that a line begins with, and what follows the space behind it. None where it begins
 /// with none.
-#[tactic(auto, unfolding(crate::specs::Grammar::offer_at, crate::specs::GrammarWords::flip_at))]
+#[tactic(auto, unfolding(crate::specs::Events::offer_at, crate::specs::Events::flip_at))]
 #[inline(always)]
 pub fn offer_in(line: &[u8]) -> Option<(OfferText<'_>, &[u8])>
     ensures { option_map (λ (x : _). (texts.offer_of x.0, x.1.now)) result ≡ offer_at line.now }
@@ -143,7 +142,7 @@ pub fn offer_in(line: &[u8]) -> Option<(OfferText<'_>, &[u8])>
 }
 
 /// Two numbers behind `flip`.
-#[tactic(auto, unfolding(crate::specs::GrammarWords::flip_at))]
+#[tactic(auto, unfolding(crate::specs::Events::flip_at))]
 fn flip_in(line: &[u8]) -> Option<(OfferText<'_>, &[u8])>
     ensures { option_map (λ (x : _). (texts.offer_of x.0, x.1.now)) result ≡ flip_at line.now }
 {
@@ -155,7 +154,7 @@ fn flip_in(line: &[u8]) -> Option<(OfferText<'_>, &[u8])>
 }
 
 /// Bytes behind `raw`.
-#[tactic(auto, unfolding(crate::specs::Grammar::raw_offer_at))]
+#[tactic(auto, unfolding(crate::specs::Events::raw_offer_at))]
 fn raw_in(line: &[u8]) -> Option<(OfferText<'_>, &[u8])>
     ensures { option_map (λ (x : _). (texts.offer_of x.0, x.1.now)) result ≡ raw_offer_at line.now }
 {
@@ -168,7 +167,7 @@ fn raw_in(line: &[u8]) -> Option<(OfferText<'_>, &[u8])>
 
 /// At most one stop, and what follows it; quiet where the line begins with none of their words.
 /// None where such a word has no right step behind it.
-#[tactic(auto, unfolding(crate::specs::Grammar::stop_at))]
+#[tactic(auto, unfolding(crate::specs::Events::stop_at))]
 #[inline(always)]
 pub fn stop_in(line: &[u8]) -> Option<(Stop, &[u8])>
     ensures { option_map (λ (x : _). (x.0, x.1.now)) result ≡ stop_at line.now }
@@ -202,7 +201,7 @@ fn drop_in(line: &[u8]) -> Option<(Stop, &[u8])>
 }
 
 /// The step that a line begins with, and what follows the space behind it.
-#[tactic(auto, unfolding(crate::specs::Grammar::stop_step_at))]
+#[tactic(auto, unfolding(crate::specs::Events::stop_step_at))]
 fn first_step_in(line: &[u8]) -> Option<(u8, &[u8])>
     ensures { option_map (λ (x : _). (x.0, x.1.now)) result ≡ stop_step_at line.now }
 {
@@ -212,7 +211,7 @@ fn first_step_in(line: &[u8]) -> Option<(u8, &[u8])>
 }
 
 /// A step and a word behind `fail`.
-#[tactic(auto, unfolding(crate::specs::Grammar::fail_stop_at))]
+#[tactic(auto, unfolding(crate::specs::Events::fail_stop_at))]
 fn failing_in(line: &[u8]) -> Option<(Stop, &[u8])>
     ensures { option_map (λ (x : _). (x.0, x.1.now)) result ≡ fail_stop_at line.now }
 {
@@ -238,7 +237,7 @@ pub fn meddles_in(line: &[u8]) -> Option<(Meddles, &[u8])>
 }
 
 /// Puts the meddles that a line begins with in place of these, and answers what follows them.
-#[tactic(auto, unfolding(crate::specs::Grammar::meddles_at))]
+#[tactic(auto, unfolding(crate::specs::Events::meddles_at))]
 #[inline(always)]
 fn read_meddles<'a>(meddles: &mut Meddles, line: &'a [u8]) -> Option<&'a [u8]>
     ensures { option_map (texts.meddles_in_place meddles.new) result ≡ meddles_at 8 0 line.now }
@@ -251,7 +250,7 @@ fn read_meddles<'a>(meddles: &mut Meddles, line: &'a [u8]) -> Option<&'a [u8]>
 }
 
 /// Puts the meddles of a line, from a step on, behind these, and answers what follows them.
-#[tactic(auto, unfolding(crate::specs::Grammar::meddles_at))]
+#[tactic(auto, unfolding(crate::specs::Events::meddles_at))]
 fn more_meddles<'a>(meddles: &mut Meddles, least: u8, line: &'a [u8]) -> Option<&'a [u8]>
     ensures { option_map (texts.meddles_in_place meddles.new) result
         ≡ texts.meddles_behind (meddles_of meddles.old)
@@ -269,7 +268,7 @@ fn more_meddles<'a>(meddles: &mut Meddles, least: u8, line: &'a [u8]) -> Option<
 }
 
 /// A meddle behind its first word: a step that is no lower than the one before, and a value.
-#[tactic(auto, unfolding(crate::specs::Grammar::meddle_at, crate::specs::Grammar::stop_step_at))]
+#[tactic(auto, unfolding(crate::specs::Events::meddle_at, crate::specs::Events::stop_step_at))]
 fn meddle_in(line: &[u8], least: u8) -> Option<(Meddle, &[u8])>
     ensures { option_map (λ (x : _). (x.0, x.1.now)) result ≡ meddle_at least line.now }
 {
@@ -351,7 +350,7 @@ pub fn owned_offer(alloc: Global, offer: OfferText<'_>) -> Result<Offer, Memory>
 }
 
 /// The bytes that a word spells.
-#[tactic(auto, unfolding(crate::specs::Words::bytes_at))]
+#[tactic(auto, unfolding(crate::specs::Headers::bytes_at))]
 fn bytes_of(alloc: Global, word: &[u8]) -> Result<Bytes, Memory>
     ensures { IfOk result (λ bytes. bytes ≡ unwrap_or (bytes_at word.now) []) }
 {

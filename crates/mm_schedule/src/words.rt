@@ -5,8 +5,8 @@ ghost use Rattle.std.specs.List.{list_all};
 ghost use Rattle.std.specs.Option.{option_map};
 ghost use Rattle.std.specs.Str.{bytes_eq};
 ghost use Rattle.hex.specs.Hex.{is_hex_digit};
-ghost use Rattle.mm_module.specs.Values.{value_at};
-ghost use Rattle.mm_schedule.specs.Words.{rest_after_prefix, bytes_at, parts_in_place, number_at, step_at, word_at};
+ghost use Rattle.mm_module.specs.Meaning.{value_at};
+ghost use Rattle.mm_schedule.specs.Headers.{rest_after_prefix, bytes_at, parts_in_place, number_at, step_at, word_at};
 
 use mm_bytes::read_decimal;
 use mm_digest::Digest;
@@ -23,7 +23,7 @@ pub fn is_text(bytes: &[u8], text: &[u8]) -> bool
 }
 
 /// What follows a prefix.
-#[tactic(auto, unfolding(crate::specs::Words::rest_after_prefix))]
+#[tactic(auto, unfolding(crate::specs::Headers::rest_after_prefix))]
 pub fn after<'a>(prefix: &[u8], line: &'a [u8]) -> Option<&'a [u8]>
     ensures { option_copied result ≡ rest_after_prefix prefix.now line.now }
 {
@@ -31,7 +31,7 @@ pub fn after<'a>(prefix: &[u8], line: &'a [u8]) -> Option<&'a [u8]>
 }
 
 /// The first word, and what follows the space behind it.
-#[tactic(auto, unfolding(crate::specs::Words::word_at))]
+#[tactic(auto, unfolding(crate::specs::Headers::word_at))]
 pub fn word_in(line: &[u8]) -> Option<(&[u8], &[u8])>
     ensures { option_map parts_in_place result ≡ word_at line.now }
 {
@@ -42,7 +42,7 @@ pub fn word_in(line: &[u8]) -> Option<(&[u8], &[u8])>
 }
 
 /// A step's number, one digit from 1 to 9.
-#[tactic(auto, unfolding(crate::specs::Words::step_at))]
+#[tactic(auto, unfolding(crate::specs::Headers::step_at))]
 pub fn step_in(word: &[u8]) -> Option<u8>
     ensures { result ≡ step_at word.now }
 {
@@ -53,7 +53,7 @@ pub fn step_in(word: &[u8]) -> Option<u8>
 }
 
 /// A decimal of at most 999999999.
-#[tactic(auto, unfolding(crate::specs::Words::number_at))]
+#[tactic(auto, unfolding(crate::specs::Headers::number_at))]
 pub fn number_in(word: &[u8]) -> Option<u32>
     ensures { result ≡ number_at word.now }
 {
@@ -79,7 +79,7 @@ fn are_digits(word: &[u8]) -> bool
 }
 
 /// Whether the word stands for bytes: `-` for none, or two hexadecimal digits for each.
-#[tactic(auto, unfolding(crate::specs::Words::bytes_at))]
+#[tactic(auto, unfolding(crate::specs::Headers::bytes_at))]
 pub fn spells_bytes(word: &[u8]) -> bool
     ensures { result ≡ is_some (bytes_at word.now) }
 {

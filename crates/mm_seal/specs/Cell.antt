@@ -1,15 +1,34 @@
--- The bytes of the non-volatile cell.
-use Rattle.std.specs.Prelude.{◌≡◌, ◌≢◌, ◌==◌, ℕ, Bool, true, false, List, ◌∷◌, ◌++◌, length, replicate, Result, Ok, Err}
-use Rattle.std.specs.Prelude.{take, drop, slice_index}
+-- The bytes of the non-volatile cell. With it: what a key remembers; fields that cells and
+-- snapshots share.
+use Rattle.std.specs.Prelude.{◌≡◌, ℕ, List, Option, IfSome, nat_lt, if◌then◌else◌, ◌≢◌, ◌==◌, Bool, true, false, ◌∷◌, ◌++◌, length}
+use Rattle.std.specs.Prelude.{replicate, Result, Ok, Err, take, drop, slice_index}
 use Rattle.mm_bytes.specs.Limits.{cell_length}
+use Rattle.mm_digest.specs.Messages.{hmac_of, variant_byte, zero_bytes}
 use Rattle.mm_digest.specs.declared.digest.Digest.{Digest}
 use Rattle.mm_digest.specs.declared.variant.Variant.{Variant}
 use Rattle.mm_digest.specs.declared.variant.Variant.TheVariants.{Basic, Opt}
-use Rattle.mm_digest.specs.Messages.{variant_byte, zero_bytes}
 use Rattle.mm_seal.specs.declared.cell.Cell.{Cell}
 use Rattle.mm_seal.specs.declared.cell.CellFault.{CellFault}
 use Rattle.mm_seal.specs.declared.cell.CellFault.TheVariants.{Blank, Cell as Unspelled}
-use Rattle.mm_seal.specs.Fields.{version_of}
+use Rattle.mm_seal.specs.declared.sealing.TaggedText.{TaggedText}
+
+-- What a key remembers.
+
+-- the absorbed key is the key of these bytes, and each text that is remembered is one with its tag
+-- under it
+pub record KeyRemembers (bytes : List ℕ) (key : Option (List ℕ)) (first second : Option TaggedText)
+    : Type 0 where
+  pub same : IfSome key (λ key. key ≡ bytes)
+  pub first_tagged : IfSome first (λ it. it.tag.bytes ≡ hmac_of bytes it.text.items)
+  pub second_tagged : IfSome second (λ it. it.tag.bytes ≡ hmac_of bytes it.text.items)
+
+-- Fields that cells and snapshots share.
+
+-- the fourth byte of a cell and of a snapshot: `1` where the module's id is below 128, else `2`
+abbrev pub version_of : ℕ → ℕ
+version_of id = if nat_lt id 128 then 0x31 else 0x32
+
+-- The bytes of the non-volatile cell.
 
 -- a Basic cell has a clear flag and a zero barrier
 abbrev pub FitsVariant : Variant → Bool → List ℕ → Type 0

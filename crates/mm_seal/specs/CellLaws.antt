@@ -10,9 +10,8 @@ use Rattle.mm_digest.specs.Messages.{variant_byte}
 use Rattle.mm_seal.specs.declared.cell.Cell.{Cell}
 use Rattle.mm_seal.specs.declared.cell.CellFault.{CellFault}
 use Rattle.mm_seal.specs.declared.cell.CellFault.TheVariants.{Blank, Cell as Unspelled}
-use Rattle.mm_seal.specs.Fields.{version_of}
-use Rattle.mm_seal.specs.Cell.{IsCell, IsSpelledWith, ReadsCell, cell_at, flag_byte, cell_spelling, blank_cell}
-use Rattle.mm_bytes.specs.FieldLaws.{append-injective}
+use Rattle.mm_seal.specs.Cell.{version_of, IsCell, IsSpelledWith, ReadsCell, cell_at, flag_byte, cell_spelling, blank_cell}
+use Rattle.mm_bytes.specs.DecimalLaws.{append-injective}
 
 pub variant_byte-injective : (v w : Variant) → variant_byte v ≡ variant_byte w → v ≡ w
 variant_byte-injective Basic Basic e = refl

@@ -1,28 +1,27 @@
 -- Bytes that spell a snapshot have its fields at their places, and what bytes are taken apart to.
-use Rattle.std.proofs.Common.{ℕ, ◌≡◌, ◌+◌, ◌-◌, ◌≤◌, Bool, true, false, List, ◌++◌, length, take, drop, Result, Ok, Err, refl, ap, ◌∙◌}
-use Rattle.std.proofs.Common.{arith, length-append, length-drop, append_assoc}
-use Rattle.std.specs.Prelude.{if◌then◌else◌, ◌==◌, slice_index}
+-- With it: what is sealed has one content, and is taken apart to it; what is read of an offer.
 use Rattle.std.specs.Int.{w64, from_be_bytes}
-use Rattle.std.proofs.Math.Seq.{take-append_seam, drop-append_seam}
+use Rattle.std.specs.Prelude.{if◌then◌else◌, ◌==◌, slice_index, nat_le}
+use Rattle.std.proofs.Common.{ℕ, ◌≡◌, ◌+◌, ◌-◌, ◌≤◌, Bool, true, false, List, ◌++◌, length, take, drop, Result, Ok, Err, refl, ap, ◌∙◌}
+use Rattle.std.proofs.Common.{arith, length-append, length-drop, append_assoc, sym, subst}
 use Rattle.std.proofs.lemmas.Bool.Decides.{nat_tests}
 use Rattle.std.proofs.lemmas.List.{length-take}
-use Rattle.std.proofs.lemmas.Slice.Eq.{bytes_eq-Decides}
 use Rattle.std.proofs.lemmas.Nat.{from_be_bytes-to_be_bytes_8}
-use Rattle.mm_bytes.specs.Limits.{last_position, limit_of}
+use Rattle.std.proofs.lemmas.Slice.Eq.{bytes_eq-Decides}
+use Rattle.std.proofs.Math.Seq.{take-append_seam, drop-append_seam}
+use Rattle.mm_bytes.specs.DecimalLaws.{length-eight_bytes, length-four_bytes}
+use Rattle.mm_bytes.specs.Limits.{last_position, limit_of, eight_bytes, four_bytes}
 use Rattle.mm_digest.specs.declared.variant.Variant.{Variant}
+use Rattle.mm_seal.specs.CellLaws.{variant_byte-injective}
 use Rattle.mm_seal.specs.declared.snapshot.PartsFault.{PartsFault}
 use Rattle.mm_seal.specs.declared.snapshot.PartsFault.TheVariants.{Form, Kind}
 use Rattle.mm_seal.specs.declared.snapshot.Place.{Place}
 use Rattle.mm_seal.specs.declared.snapshot.Place.TheVariants.{Basic, Opt}
-use Rattle.mm_bytes.specs.Fields.{eight_bytes, four_bytes}
-use Rattle.mm_seal.specs.Body.{place_length}
-use Rattle.mm_seal.specs.CellLaws.{variant_byte-injective}
+use Rattle.mm_seal.specs.Parts.{place_length, digest_at, fields_of, is_spelled_by, is_of_kind, parts_of}
 use Rattle.mm_seal.specs.Snapshot.{Content, Snapshot, IsPlace, SpellsSnapshot, IsOfKind, IsNoSnapshot, ReadsParts, place_spelling}
-use Rattle.mm_seal.specs.Snapshot.{snapshot_front, snapshot_spelling, variant_of}
-use Rattle.mm_seal.specs.SnapshotWords.{front_head}
-use Rattle.mm_bytes.specs.FieldLaws.{length-eight_bytes, length-four_bytes}
-use Rattle.mm_seal.specs.SnapshotLaws.{length-snapshot_front, reads_parts-same}
-use Rattle.mm_seal.specs.Parts.{digest_at, fields_of, is_spelled_by, is_of_kind, parts_of}
+use Rattle.mm_seal.specs.Snapshot.{snapshot_front, snapshot_spelling, variant_of, front_head, IsContent, sealed_snapshot_of}
+use Rattle.mm_seal.specs.Snapshot.{offered_snapshot_of}
+use Rattle.mm_seal.specs.SnapshotLaws.{length-snapshot_front, reads_parts-same, sealed_snapshot_of-spells, same_snapshot}
 
 pub take_front : (n : ℕ) (xs ys : List ℕ) → length xs ≡ n → take n (xs ++ ys) ≡ xs
 take_front n xs ys e = rw (← e) (take-append_seam xs ys)
@@ -166,3 +165,33 @@ reads_parts variant id bytes =
 pub parts_are : (variant : Variant) (id : ℕ) (bytes : List ℕ) (read : Result Snapshot PartsFault) → ReadsParts bytes variant id read
     → read ≡ parts_of variant id bytes
 parts_are variant id bytes read r = reads_parts-same bytes variant id read (parts_of variant id bytes) r (reads_parts variant id bytes)
+
+-- What is sealed has one content, and is taken apart to it.
+
+-- a sealed content, as an offer to its own variant and module
+pub sealed_reads : (key : List ℕ) (x : Content) (variant : Variant) (id : ℕ) → IsContent x → variant_of x.place ≡ variant → x.id ≡ id
+    → ReadsParts (sealed_snapshot_of key x) variant id (Ok (offered_snapshot_of key x))
+sealed_reads key x variant id is v i = (sealed_snapshot_of-spells key x is, (v, i))
+
+pub sealed_parts : (key : List ℕ) (x : Content) (variant : Variant) (id : ℕ) → IsContent x → variant_of x.place ≡ variant → x.id ≡ id
+    → parts_of variant id (sealed_snapshot_of key x) ≡ Ok (offered_snapshot_of key x)
+sealed_parts key x variant id is v i =
+    sym (parts_are variant id (sealed_snapshot_of key x) (Ok (offered_snapshot_of key x)) (sealed_reads key x variant id is v i))
+
+-- two contents of one sealed text are one, whatever the keys
+pub sealed_once : (key other : List ℕ) (x y : Content) → IsContent x → IsContent y → sealed_snapshot_of key x ≡ sealed_snapshot_of other y
+    → x ≡ y
+sealed_once key other x y ix iy e =
+    let t = sealed_snapshot_of-spells other y iy in
+    ap (λ (s : Snapshot). s.content)
+    (same_snapshot (sealed_snapshot_of key x) (offered_snapshot_of key x) (offered_snapshot_of other y)
+    (sealed_snapshot_of-spells key x ix) (t.0, e ∙ t.1))
+
+-- What is read of an offer.
+
+pub le_tells : (a b : ℕ) → nat_le a b ≡ true → a ≤ b
+le_tells a b e = grind (arith, nat_tests)
+
+pub spells_read : (variant : Variant) (id : ℕ) (bytes : List ℕ) (snapshot : Snapshot) → parts_of variant id bytes ≡ Ok snapshot
+    → SpellsSnapshot bytes snapshot × IsOfKind variant id snapshot
+spells_read variant id bytes snapshot e = subst (λ read. ReadsParts bytes variant id read) e (reads_parts variant id bytes)

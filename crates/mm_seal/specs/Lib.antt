@@ -1,13 +1,6 @@
-pub mod Fields
 pub mod Cell
 pub mod Snapshot
-pub mod Body
 pub mod Parts
-pub mod PartsWords
-pub mod SnapshotWords
 pub mod FieldLaws
 pub mod SnapshotLaws
-pub mod SealLaws
-pub mod KeyRemembers
 pub mod CellLaws
-pub mod ReadingLaws

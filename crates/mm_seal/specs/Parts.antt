@@ -1,17 +1,66 @@
--- What an offer is taken apart to, as a function of its bytes.
-use Rattle.std.specs.Prelude.{ℕ, ◌+◌, ◌-◌, ◌==◌, ◌&&◌, Bool, List, ◌++◌, length, take, drop, Result, Ok, Err, if◌then◌else◌, nat_le}
-use Rattle.std.specs.Prelude.{slice_index}
+-- What an offer is taken apart to, as a function of its bytes. With it: what a body in code says,
+-- as plain data, and what reading one gives.
 use Rattle.std.specs.Int.{w64, from_be_bytes}
+use Rattle.std.specs.Prelude.{◌≡◌, ◌≢◌, ◌+◌, ◌<◌, ◌≤◌, ◌^◌, ℕ, List, ◌++◌, length, slice_index, ◌-◌, ◌==◌, ◌&&◌, Bool, take, drop, Result}
+use Rattle.std.specs.Prelude.{Ok, Err, if◌then◌else◌, nat_le}
 use Rattle.std.specs.Str.{bytes_eq}
-use Rattle.mm_bytes.specs.Limits.{last_position, limit_of}
+use Rattle.mm_bytes.specs.Limits.{eight_bytes, four_bytes, last_position, limit_of}
+use Rattle.mm_digest.specs.Messages.{variant_byte}
 use Rattle.mm_digest.specs.declared.digest.Digest.{Digest}
 use Rattle.mm_digest.specs.declared.variant.Variant.{Variant}
-use Rattle.mm_digest.specs.Messages.{variant_byte}
-use Rattle.mm_seal.specs.declared.snapshot.Place.TheVariants.{Basic as InBasic, Opt as InOpt}
+use Rattle.mm_digest.specs.declared.variant.Variant.TheVariants.{Basic, Opt}
+use Rattle.mm_seal.specs.declared.snapshot.Body.{Body}
 use Rattle.mm_seal.specs.declared.snapshot.PartsFault.{PartsFault}
 use Rattle.mm_seal.specs.declared.snapshot.PartsFault.TheVariants.{Form, Kind}
-use Rattle.mm_seal.specs.Snapshot.{Snapshot, snapshot_front, variant_of}
-use Rattle.mm_seal.specs.Body.{place_length}
+use Rattle.mm_seal.specs.declared.snapshot.Place.{Place}
+use Rattle.mm_seal.specs.declared.snapshot.Place.TheVariants.{Basic as InBasic, Opt as InOpt}
+use Rattle.mm_seal.specs.Snapshot.{Content, IsContent, IsPlace, variant_of, place_spelling, snapshot_front, front_head, Snapshot}
+
+-- What a body in code says, as plain data, and what reading one gives.
+
+abbrev pub content_of : Body → Content
+content_of body = record {
+  id = body.module;
+  place = body.place;
+  position = body.position;
+  state = body.state.now;
+}
+
+-- the bytes are this content's, without a tag
+abbrev pub SpellsContent : List ℕ → Content → Type 0
+SpellsContent front content = IsContent content × (front ≡ snapshot_front content)
+
+-- the bytes are no content's
+abbrev pub SpellsNoContent : List ℕ → Type 0
+SpellsNoContent front = (content : Content) → IsContent content → front ≢ snapshot_front content
+
+abbrev pub place_length : Variant → ℕ
+place_length Basic = 32
+place_length Opt = 64
+
+-- the bytes name the variant, and are long enough for its fields
+abbrev pub HasFieldsOf : List ℕ → Variant → Type 0
+HasFieldsOf front variant =
+    (variant_byte variant ≡ slice_index front 4) × (18 + place_length variant ≤ length front)
+
+-- the place of this variant in front of the bytes, and the rest
+abbrev pub HasPlaceInFront : List ℕ → Variant → Place → List ℕ → Type 0
+HasPlaceInFront bytes variant place rest =
+    (bytes ≡ place_spelling place ++ rest) × (variant_of place ≡ variant) × IsPlace place
+
+-- the position and the length of the state in front of the bytes, and the rest
+abbrev pub HasNumbersInFront : List ℕ → ℕ → ℕ → List ℕ → Type 0
+HasNumbersInFront bytes position size rest =
+    (bytes ≡ eight_bytes position ++ (four_bytes size ++ rest)) × (position < 2 ^ 64)
+    × (size < 2 ^ 32)
+
+-- the head is the content's, and the content is within its bounds and has this length
+abbrev pub HasHead : Content → List ℕ → ℕ → Type 0
+HasHead content head size =
+    (head ≡ front_head content) × (content.position ≤ last_position) × (length content.state ≡ size)
+    × (length content.state ≤ limit_of content.id)
+
+-- What an offer is taken apart to, as a function of its bytes.
 
 abbrev pub digest_at : ℕ → List ℕ → Digest
 digest_at at bytes = record { bytes = take 32 (drop at bytes) }
@@ -50,3 +99,11 @@ parts_of variant id bytes =
     let snapshot = fields_of bytes in
     if is_spelled_by bytes snapshot
     then (if is_of_kind variant id snapshot then Ok snapshot else Err Kind) else Err Form
+
+-- a snapshot's fields are within their bounds
+abbrev pub is_bounded : Content → Bool
+is_bounded content =
+    nat_le content.position last_position && nat_le (length content.state) (limit_of content.id)
+
+abbrev pub is_same_variant : Variant → Variant → Bool
+is_same_variant v w = variant_byte v == variant_byte w

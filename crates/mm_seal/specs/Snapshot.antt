@@ -1,17 +1,16 @@
 -- The bytes of a snapshot, and its seal.
 use Rattle.std.specs.Prelude.{◌≡◌, ◌≢◌, ◌≤◌, ℕ, List, [], ◌∷◌, ◌++◌, length, nat_lt, Result, Ok, Err, if◌then◌else◌}
-use Rattle.mm_bytes.specs.Limits.{last_position, limit_of}
+use Rattle.mm_bytes.specs.Limits.{last_position, limit_of, eight_bytes, four_bytes}
+use Rattle.mm_digest.specs.Messages.{variant_byte, hmac_of}
 use Rattle.mm_digest.specs.declared.variant.Variant.{Variant}
 use Rattle.mm_digest.specs.declared.variant.Variant.TheVariants as variants
-use Rattle.mm_digest.specs.Messages.{variant_byte}
-use Rattle.mm_digest.specs.Hmac.{hmac_of}
-use Rattle.mm_seal.specs.declared.snapshot.Place.{Place}
-use Rattle.mm_seal.specs.declared.snapshot.Place.TheVariants.{Basic, Opt}
-use Rattle.mm_seal.specs.declared.snapshot.PartsFault.{PartsFault}
-use Rattle.mm_seal.specs.declared.snapshot.PartsFault.TheVariants.{Form, Kind}
+use Rattle.mm_seal.specs.Cell.{version_of}
 use Rattle.mm_seal.specs.declared.snapshot.OpenFault.{OpenFault}
 use Rattle.mm_seal.specs.declared.snapshot.OpenFault.TheVariants as opening
-use Rattle.mm_bytes.specs.Fields.{eight_bytes, four_bytes}
+use Rattle.mm_seal.specs.declared.snapshot.PartsFault.{PartsFault}
+use Rattle.mm_seal.specs.declared.snapshot.PartsFault.TheVariants.{Form, Kind}
+use Rattle.mm_seal.specs.declared.snapshot.Place.{Place}
+use Rattle.mm_seal.specs.declared.snapshot.Place.TheVariants.{Basic, Opt}
 
 abbrev pub variant_of : Place → Variant
 variant_of (Basic summary) = variants.Basic
@@ -115,3 +114,9 @@ OpensOffer bytes key variant id (Err opening.Tag) =
 abbrev pub HasOneSpelling : Type 0
 HasOneSpelling = (s t : Snapshot) (rest : List ℕ) → IsSnapshot s → IsSnapshot t →
     snapshot_spelling s ++ rest ≡ snapshot_spelling t → (s ≡ t) × (rest ≡ [])
+
+-- what comes before the place
+abbrev pub front_head : Content → List ℕ
+front_head content =
+    0x4d ∷ 0x4d ∷ 0x53 ∷ version_of content.id ∷ variant_byte (variant_of content.place)
+    ∷ content.id ∷ []

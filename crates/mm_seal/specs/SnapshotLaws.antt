@@ -3,22 +3,20 @@ use Rattle.std.proofs.Common.{Result, Ok, Err, subst, ℕ, ◌≡◌, ◌≢◌,
 use Rattle.std.proofs.Common.{◌∙◌, arith, length-append, append_assoc}
 use Rattle.std.proofs.lemmas.List.{append-nil}
 use Rattle.std.proofs.lemmas.Bool.Decides.{nat_tests}
-use Rattle.mm_bytes.specs.Limits.{limit_of}
+use Rattle.mm_bytes.specs.Limits.{limit_of, eight_bytes, four_bytes}
 use Rattle.mm_digest.specs.declared.variant.Variant.{Variant}
 use Rattle.mm_digest.specs.declared.variant.Variant.TheVariants as variants
 use Rattle.mm_digest.specs.Messages.{variant_byte}
 use Rattle.mm_seal.specs.declared.snapshot.Place.{Place}
 use Rattle.mm_seal.specs.declared.snapshot.Place.TheVariants.{Basic, Opt}
-use Rattle.mm_bytes.specs.Fields.{eight_bytes, four_bytes}
-use Rattle.mm_seal.specs.Fields.{version_of}
+use Rattle.mm_seal.specs.Cell.{version_of}
 use Rattle.mm_seal.specs.Snapshot.{Content, IsContent, IsPlace, Snapshot, snapshot_spelling, HasOneSpelling, variant_of, place_spelling}
-use Rattle.mm_seal.specs.Snapshot.{snapshot_front, SpellsSnapshot, IsOfKind, ReadsParts, tag_of, sealed_snapshot_of}
-use Rattle.mm_seal.specs.SnapshotWords.{front_head}
+use Rattle.mm_seal.specs.Snapshot.{snapshot_front, SpellsSnapshot, IsOfKind, ReadsParts, tag_of, sealed_snapshot_of, front_head}
 use Rattle.mm_digest.specs.LengthLaws.{length-hmac_of}
 use Rattle.mm_seal.specs.declared.snapshot.PartsFault.{PartsFault}
 use Rattle.mm_seal.specs.declared.snapshot.PartsFault.TheVariants.{Form, Kind}
-use Rattle.mm_seal.specs.Body.{SpellsNoContent, HasHead, place_length}
-use Rattle.mm_bytes.specs.FieldLaws.{append-injective, eight_bytes-injective, four_bytes-injective, length-eight_bytes, length-four_bytes}
+use Rattle.mm_seal.specs.Parts.{SpellsNoContent, HasHead, place_length}
+use Rattle.mm_bytes.specs.DecimalLaws.{append-injective, eight_bytes-injective, four_bytes-injective, length-eight_bytes, length-four_bytes}
 use Rattle.mm_seal.specs.CellLaws.{variant_byte-injective}
 
 -- five parts put at the end one after another

@@ -1,7 +1,7 @@
 //! Fields of fixed length at the front of a byte list.
 
 ghost use Rattle.std.specs.Prelude.{◌≡◌, ◌+◌, ◌<◌, ◌≤◌, ◌++◌, length, MatchOption};
-ghost use Rattle.mm_seal.specs.Fields.{version_of};
+ghost use Rattle.mm_seal.specs.Cell.{version_of};
 ghost use Rattle.mm_seal.specs.Parts.{digest_at};
 
 use mm_digest::{Digest, zero};

@@ -34,7 +34,7 @@ pub struct TaggedText {
 
 impl Model for SealingKey {
     ghost use Rattle.std.specs.Prelude.{List, ℕ};
-    ghost use Rattle.mm_seal.specs.KeyRemembers.{KeyRemembers};
+    ghost use Rattle.mm_seal.specs.Cell.{KeyRemembers};
 
     ghost Value = { List ℕ };
 
@@ -46,8 +46,8 @@ impl Model for SealingKey {
 impl SealingKey {
     ghost use Rattle.std.specs.Prelude.{◌≡◌, ◌≤◌, ◌↔◌, [], ◌++◌, IsTrue, IfOk, IfSome, length};
     ghost use Rattle.mm_bytes.specs.Limits.{last_position, limit_of};
-    ghost use Rattle.mm_digest.specs.Hmac.{hmac_of};
-    ghost use Rattle.mm_seal.specs.Body.{content_of};
+    ghost use Rattle.mm_digest.specs.Messages.{hmac_of};
+    ghost use Rattle.mm_seal.specs.Parts.{content_of};
     ghost use Rattle.mm_seal.specs.Snapshot.{sealed_snapshot_of, tag_of};
 
     /// The key, absorbed, with nothing remembered. Takes no memory.

@@ -2,11 +2,11 @@
 
 ghost use Rattle.std.specs.Prelude.{◌≡◌, ◌≤◌, ◌<◌, ◌++◌, ◌↔◌, IsTrue, IfOk, MatchOption, OnOk, OnErr, length};
 ghost use Rattle.mm_bytes.specs.Limits.{last_position, limit_of};
-ghost use Rattle.mm_digest.specs.Hmac.{hmac_of};
-ghost use Rattle.mm_seal.specs.Snapshot.{variant_of, place_spelling, IsPlace, snapshot_front, sealed_snapshot_of, IsOfKind, IsNoSnapshot, SpellsSnapshot, ReadsParts, OpensOffer, HasOneSpelling};
-ghost use Rattle.mm_seal.specs.SnapshotWords.{front_head};
-ghost use Rattle.mm_seal.specs.Parts.{parts_of};
-ghost use Rattle.mm_seal.specs.Body.{content_of, SpellsNoContent, SpellsContent, HasFieldsOf, HasHead, HasNumbersInFront, HasPlaceInFront, place_length};
+ghost use Rattle.mm_digest.specs.Messages.{hmac_of};
+ghost use Rattle.mm_seal.specs.Snapshot.{variant_of, place_spelling, IsPlace, snapshot_front, sealed_snapshot_of, IsOfKind, IsNoSnapshot};
+ghost use Rattle.mm_seal.specs.Snapshot.{SpellsSnapshot, ReadsParts, OpensOffer, HasOneSpelling, front_head};
+ghost use Rattle.mm_seal.specs.Parts.{parts_of, content_of, SpellsNoContent, SpellsContent, HasFieldsOf, HasHead, HasNumbersInFront};
+ghost use Rattle.mm_seal.specs.Parts.{HasPlaceInFront, place_length};
 
 use crate::field::{digest_at, version};
 use crate::sealing::SealingKey;
@@ -84,7 +84,7 @@ pub struct Offered<'a> {
 impl<'a> Model for Offered<'a> {
     ghost use Rattle.std.specs.Prelude.{◌≡◌};
     ghost use Rattle.mm_seal.specs.Snapshot.{Snapshot, snapshot_front};
-    ghost use Rattle.mm_seal.specs.Body.{content_of};
+    ghost use Rattle.mm_seal.specs.Parts.{content_of};
 
     ghost Value = { Snapshot };
 
@@ -96,7 +96,7 @@ impl<'a> Model for Offered<'a> {
 impl<'a> Offered<'a> {
     ghost use Rattle.std.specs.Prelude.{◌≡◌, ◌↔◌, IsTrue};
     ghost use Rattle.mm_seal.specs.Snapshot.{tag_of, snapshot_front};
-    ghost use Rattle.mm_seal.specs.Body.{content_of};
+    ghost use Rattle.mm_seal.specs.Parts.{content_of};
 
     /// What the snapshot says.
     pub fn body(&self) -> Body<'a>

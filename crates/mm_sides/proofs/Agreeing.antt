@@ -15,11 +15,10 @@ use Rattle.mm_sides.proofs.Found.{affected_order, EntersSo, enters_so}
 use Rattle.mm_sides.proofs.Outer.{AreOuter, found_outer, stopped_outer, due_among, IsAlike, same_batches, same_open, brought_alike}
 use Rattle.mm_sides.proofs.Outer.{events_agree, stop_listed, outer_keeps}
 use Rattle.mm_sides.proofs.InOrder.{not_dead, invites_none, leaves_live}
-use Rattle.mm_sides.proofs.OneHistory.{live_history, away_history, affected_history}
-use Rattle.mm_sides.proofs.OneLive.{IsOrdered}
+use Rattle.mm_sides.proofs.OneRun.{live_history, away_history, affected_history, IsOrdered}
 use Rattle.mm_sides.proofs.Rests.{names_cross, alike_names, issued_cross, within_cross, cell_cross, digest_rests, says_again, rests_listed}
 use Rattle.mm_sides.proofs.Rests.{flag_shut, sound_in, issued_here, here_tells, end_of}
-use Rattle.mm_sides.proofs.Behind.{alike_rests_in, behind_later, IsBehind, rests_in, RestsIn, went_alike, went_here}
+use Rattle.mm_sides.proofs.SideNames.{alike_rests_in, behind_later, IsBehind, rests_in, RestsIn, went_alike, went_here}
 use Rattle.mm_sides.proofs.Twins.{Twin, twin, IsNamed, Kept, Goes, each_goes, brought_kept, now_within, plain_goes}
 use Rattle.mm_sides.proofs.WentOn.{WentOn}
 use Rattle.mm_sides.proofs.SameFound.{named_of, finding_same}

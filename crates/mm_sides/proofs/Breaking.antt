@@ -13,7 +13,7 @@ use Rattle.std.proofs.lemmas.Bool.Decides.{Decides-and, Decides-eqb}
 use Rattle.mm_seal.specs.declared.snapshot.Place.{Place}
 use Rattle.mm_seal.specs.declared.snapshot.Place.TheVariants.{Basic as InBasic, Opt as InOpt}
 use Rattle.mm_digest.specs.declared.digest.Digest.{Digest}
-use Rattle.mm_model.specs.Places.{NamesPosition}
+use Rattle.mm_model.specs.Standing.{NamesPosition}
 use Rattle.mm_history.specs.Naming.{BasicNamesAreDecided, is_named, IsDecided, OptNamesAreDecided}
 use Rattle.mm_platform.specs.declared.plan.Meddle.{Meddle}
 use Rattle.mm_platform.specs.declared.plan.Stop.{Stop}
@@ -23,9 +23,8 @@ use Rattle.mm_outcome.specs.Premises.{IsGenuineOffer}
 use Rattle.mm_evidence.specs.Evidence.{IsForged}
 use Rattle.mm_evidence.proofs.Above.{clash_apart, clash_or, found_or_none, names_by, offer_apart, offer_or}
 use Rattle.mm_sides.specs.BothSides.{sides_seen_from}
-use Rattle.mm_sides.specs.Evidence.{accepted, asked, breach, clash, HasPairEvidence, invited, IsBreach, notes_after, PairsAreDecided}
-use Rattle.mm_sides.specs.Evidence.{retired}
-use Rattle.mm_sides.specs.Premises.{IsClearPair, IsFreshPair, IsGenuinePair, IsGenuinePlain}
+use Rattle.mm_sides.specs.Premises.{accepted, asked, breach, clash, HasPairEvidence, invited, IsBreach, notes_after, PairsAreDecided}
+use Rattle.mm_sides.specs.Premises.{retired, IsClearPair, IsFreshPair, IsGenuinePair, IsGenuinePlain}
 
 -- tickets are compared
 

@@ -13,13 +13,13 @@ use Rattle.mm_sides.proofs.Below.{both_outcome_by_lists, notes_with_effect_if, r
 use Rattle.mm_sides.proofs.Below.{both_event_messages, both_messages, both_messages_from, AreFreshFrom, IsNew, IsOurs, IsOursIn, one_move}
 use Rattle.mm_sides.proofs.Below.{counters, MovesOnce}
 use Rattle.mm_digest.specs.LengthLaws.{length-zero_bytes, length-start_digest_of, length-hmac_of}
-use Rattle.mm_module.specs.CounterTable.{counter}
-use Rattle.mm_module.specs.CounterLaws.{counter_is_lawful}
-use Rattle.mm_seal.specs.SealLaws.{sealed_parts, sealed_once}
-use Rattle.mm_call.specs.MoveLaws.{summary-nil}
+use Rattle.mm_module.specs.Meaning.{counter}
+use Rattle.mm_module.specs.RunLaws.{counter_is_lawful}
+use Rattle.mm_seal.specs.FieldLaws.{sealed_parts, sealed_once}
+use Rattle.mm_call.specs.OfferLaws.{summary-nil}
 use Rattle.mm_move.specs.Tickets.{sealed_ticket}
 use Rattle.mm_schedule.specs.declared.event.Offer.TheVariants.{Last}
-use Rattle.mm_outcome.specs.WorldState.{world_barrier}
+use Rattle.mm_outcome.specs.OneRun.{world_barrier}
 use Rattle.mm_sides.proofs.Rests.{issued_here}
 use Rattle.mm_sides.proofs.SideNames.{first_sound_in, first_lives}
 

@@ -1,23 +1,168 @@
--- The replies to the calls of both sides are those of one run.
-use Rattle.mm_sides.proofs.Below.{ℕ, ◌≡◌, ◌≤◌, ◌+◌, true, false, List, [], ◌∷◌, ◌++◌, length, Option, None, Some, Result, refl, sym, ap}
-use Rattle.mm_sides.proofs.Below.{◌∙◌, subst, arith, length-append, Batch, members_of, Meaning, Meddle, Stop, Variant, Basic, Opt, Instance}
-use Rattle.mm_sides.proofs.Below.{History, requests_of, Refusal, StepFate, walk, list_level, instance_by, Outcome, refusal_for_role}
-use Rattle.mm_sides.proofs.Below.{course_of, event_outcome, vain_event_outcome, event_steps, Role, Live, Effect, Invites, Enters, is_live}
-use Rattle.mm_sides.proofs.Below.{MoveNotes, no_notes, AreInOrder, SideName, First, Second, Pair, key_of, instance_on, BothSides}
-use Rattle.mm_sides.proofs.Below.{sides_swapped, list_mover, first_both_by_lists, MoveCommand, Accept, DenialCause, FoundMove, BothAct}
-use Rattle.mm_sides.proofs.Below.{Plain, Moves, BothEvent, BothOutcome, plain_outcome, sides_after_effect_if, state_after_steps, effect_of}
-use Rattle.mm_sides.proofs.Below.{move_steps, found_command, outcome_of_found_move, outcome_if_found, unissued_reply, outcome_here}
-use Rattle.mm_sides.proofs.Below.{both_outcome, BothRunOutcome, both_outcome_of_events, notes_with_effect_if, IsNew, IsOursIn, AreFreshFrom}
-use Rattle.mm_sides.proofs.Below.{plain_events_in, plain_events, plain_reply, plain_replies, history_at, history_now, SidesRunAsOne}
+-- The replies to the calls of both sides are those of one run. With it: the one history; at each
+-- moment at most one side is live, and the module enters one only where none is, by its last
+-- ticket.
 use Rattle.mm_schedule.specs.Events as events
-use Rattle.mm_schedule.specs.Machine.{IsBatchStep, IsStepWithoutBatch, IsRunStep, IsEventRun}
+use Rattle.mm_schedule.specs.Replies.{IsBatchStep, IsStepWithoutBatch, IsRunStep, IsEventRun}
 use Rattle.mm_schedule.specs.declared.reply.Reply.{Reply}
 use Rattle.mm_schedule.specs.declared.reply.Reply.TheVariants.{Told as ToldReply, Kept}
-use Rattle.mm_sides.proofs.InOrder.{roles_begin, roles_swap}
-use Rattle.mm_sides.proofs.Found.{IsFine, IsTold, IsEnded, ended_told, EntersSo}
-use Rattle.mm_sides.proofs.Outer.{in_vain, IsAlike, same_batches, brought_alike}
-use Rattle.mm_sides.proofs.OneHistory.{turned_history, away_history, alike_at, then_history, affected_history}
-use Rattle.mm_sides.proofs.OneLive.{IsOrdered, here_ordered, event_ordered}
+use Rattle.mm_sides.proofs.Below.{◌≡◌, Bool, true, false, Option, Some, refl, sym, ap, ◌∙◌, History, Effect, Invites, Leaves, Enters}
+use Rattle.mm_sides.proofs.Below.{MoveNotes, is_live, AreInOrder, BothSides, sides_swapped, list_mover, sides_after_effect_if, history_at}
+use Rattle.mm_sides.proofs.Below.{history_now, ℕ, List, [], ◌∷◌, None, Result, subst, Meddle, Stop, Instance, StepFate, walk, course_of}
+use Rattle.mm_sides.proofs.Below.{Role, no_notes, ModuleEntersByLast, SideName, First, Second, Pair, instance_on, first_both_by_lists}
+use Rattle.mm_sides.proofs.Below.{MoveCommand, DenialCause, FoundMove, BothAct, Plain, Moves, BothEvent, BothOutcome, state_after_steps}
+use Rattle.mm_sides.proofs.Below.{effect_of, move_steps, found_command, outcome_of_found_move, outcome_if_found, outcome_here, both_outcome}
+use Rattle.mm_sides.proofs.Below.{notes_with_effect_if, IsNew, IsOursIn, AreFreshFrom, ModuleEntersAlone, IsOneLiveFrom, OneIsLive, ◌≤◌}
+use Rattle.mm_sides.proofs.Below.{◌+◌, ◌++◌, length, arith, length-append, Batch, members_of, Meaning, Variant, Basic, Opt, requests_of}
+use Rattle.mm_sides.proofs.Below.{Refusal, list_level, instance_by, Outcome, refusal_for_role, event_outcome, vain_event_outcome}
+use Rattle.mm_sides.proofs.Below.{event_steps, Live, key_of, Accept, plain_outcome, unissued_reply, BothRunOutcome, both_outcome_of_events}
+use Rattle.mm_sides.proofs.Below.{plain_events_in, plain_events, plain_reply, plain_replies, SidesRunAsOne}
+use Rattle.mm_sides.proofs.Found.{IsFine, FitsIn, finding_fits, effect_fine, IsEnded, ended_told, affected_order, EntersSo, enters_so}
+use Rattle.mm_sides.proofs.Found.{IsTold}
+use Rattle.mm_sides.proofs.InOrder.{not_dead, invites_none, leaves_live, roles_are_one, roles_begin, roles_swap}
+use Rattle.mm_sides.proofs.Outer.{IsAlike, in_vain, same_batches, brought_alike}
+
+-- The one history: the sides exchanged have the same, and what an effect makes of it.
+
+turned_at : (a b : Bool) (first second away : History) → (a ≡ true → b ≡ false)
+    → history_at b a second first away ≡ history_at a b first second away
+turned_at true true first second away one = not_dead (one refl)
+turned_at false true first second away one = refl
+turned_at _ _ first second away one = refl
+
+pub turned_history : (l : BothSides History History) (notes : MoveNotes) → AreInOrder l.first.role l.second.role notes
+    → history_now (sides_swapped l) ≡ history_now l
+turned_history l notes h = turned_at (is_live l.first.role) (is_live l.second.role) l.first.at l.second.at l.away
+    (roles_are_one l.first.role l.second.role notes h)
+
+-- where the first side is live, and where none is
+pub live_history : (l : BothSides History History) → is_live l.first.role ≡ true → history_now l ≡ l.first.at
+live_history l live = ap (λ f. history_at f (is_live l.second.role) l.first.at l.second.at l.away) live
+
+pub away_history : (l : BothSides History History) → is_live l.first.role ≡ false → is_live l.second.role ≡ false → history_now l ≡ l.away
+away_history l gone left =
+    ap (λ f. history_at f (is_live l.second.role) l.first.at l.second.at l.away) gone
+    ∙ ap (λ f. history_at false f l.first.at l.second.at l.away) left
+
+-- the first side stands elsewhere, with other items
+pub alike_at : (a b : Bool) (y z second away : History) → IsAlike y z
+    → IsAlike (history_at a b y second away) (history_at a b z second away)
+alike_at true b y z second away alike = alike
+alike_at false true y z second away alike = record { is = refl }
+alike_at false false y z second away alike = record { is = refl }
+
+-- A module that enters has the items of its side; no other effect changes the history.
+abbrev pub then_history : BothSides History History → Option Effect → History
+then_history l (Some (Enters ticket)) = record l.away { items = l.first.at.items }
+then_history l effect = history_now l
+
+pub affected_history : (l : BothSides History History) (notes : MoveNotes) (effect : Option Effect)
+    → AreInOrder l.first.role l.second.role notes → IsFine l.first.role notes effect
+    → history_now (sides_after_effect_if list_mover l effect) ≡ then_history l effect
+affected_history l notes (Some (Invites nonce)) h fine =
+    ap (λ f. history_at f (is_live l.second.role) l.first.at l.second.at l.away) (sym (invites_none l.first.role nonce fine.0))
+affected_history l notes (Some (Leaves ticket)) h fine =
+    let live : is_live l.first.role ≡ true = leaves_live l.first.role ticket fine.0 in
+    ap (λ f. history_at false f l.first.at l.second.at l.first.at) (roles_are_one l.first.role l.second.role notes h live)
+    ∙ sym (live_history l live)
+affected_history l notes _ h fine = refl
+
+-- At each moment at most one side is live, and the module enters one only where none is, by its last ticket.
+
+-- an event on the first side keeps the order of the roles
+pub record IsOrdered (this other : Role) (notes : MoveNotes) (o : BothOutcome History History) : Type 0 where
+  pub order : AreInOrder o.both.first.role o.both.second.role (notes_with_effect_if o.effect notes)
+  pub alone : EntersSo this other notes o.effect
+  pub fine : IsFine this notes o.effect
+
+moved_ordered : (pair : Pair) (i : Instance) (both : BothSides History History) (notes : MoveNotes) (meddles : List Meddle) (stop : Stop)
+    (command : MoveCommand) (found : Option (Result FoundMove DenialCause)) → AreInOrder both.first.role both.second.role notes
+    → FitsIn list_mover i both.first.at notes both.first.role found
+    → IsNew notes (outcome_if_found list_mover pair i both meddles stop command
+    found).effect → IsOrdered both.first.role both.second.role notes (outcome_if_found list_mover pair i both meddles stop command found)
+moved_ordered pair i both notes meddles stop command None h may new = record { order = h; alone = tt; fine = tt }
+moved_ordered pair i both notes meddles stop command (Some found) h may new =
+    let fates : ℕ → StepFate = (course_of stop meddles).fates in
+    let effect : Option Effect = effect_of fates found in
+    let here : BothSides History History = record both
+    { first = record both.first { at = state_after_steps list_mover i both.first.at meddles stop (move_steps found) } } in
+    let o : BothOutcome History History = outcome_of_found_move list_mover pair i both meddles stop found in
+    let ended : IsEnded list_mover pair i (sides_after_effect_if list_mover here effect) effect o =
+    ended_told list_mover pair i (sides_after_effect_if list_mover here effect) stop (walk fates 1 (move_steps found)).broken found
+    effect in
+    let fine : IsFine both.first.role notes effect =
+    effect_fine list_mover i both.first.at notes both.first.role fates found may (subst (IsNew notes) ended.effect_is new) in
+    let order = affected_order list_mover here notes effect h fine in
+    let back : effect ≡ o.effect = sym ended.effect_is in
+    record {
+      order = subst (λ (e : Option Effect). AreInOrder o.both.first.role o.both.second.role (notes_with_effect_if e notes)) back
+          (subst (λ (r : Role). AreInOrder r o.both.second.role (notes_with_effect_if effect notes)) (sym ended.tells.role)
+          (subst (λ (s : _). AreInOrder (sides_after_effect_if list_mover here effect).first.role s.role
+          (notes_with_effect_if effect notes))
+          (sym ended.tells.second) order));
+      alone = subst (EntersSo both.first.role both.second.role notes) back (enters_so both.first.role both.second.role notes effect h fine);
+      fine = subst (IsFine both.first.role notes) back fine;
+    }
+
+pub here_ordered : (pair : Pair) (i : Instance) (both : BothSides History History) (notes : MoveNotes) (act : BothAct)
+    → AreInOrder both.first.role both.second.role notes
+    → IsNew notes (outcome_here list_mover pair i both act).effect → IsOursIn pair both.tickets notes act
+    → IsOrdered both.first.role both.second.role notes (outcome_here list_mover pair i both act)
+here_ordered pair i both notes (Plain event) h new ours = record { order = h; alone = tt; fine = tt }
+here_ordered pair i both notes (Moves meddles stop command) h new ours =
+    moved_ordered pair i both notes meddles stop command (found_command list_mover pair i both command) h
+    (finding_fits list_mover pair i notes both command ours) new
+
+-- turned, where the second side is in front
+swapped_last : (this other : Role) (notes : MoveNotes) (ticket : _) → ModuleEntersByLast this other notes ticket
+    → ModuleEntersByLast other this notes ticket
+swapped_last this other notes ticket h = record { not_here = h.not_there; not_there = h.not_here; last = h.last }
+
+alone_first : (notes : MoveNotes) (both : BothSides History History) (effect : Option Effect)
+    → EntersSo both.first.role both.second.role notes effect → ModuleEntersAlone notes both effect
+alone_first notes both (Some (Enters ticket)) h = h
+alone_first notes both effect h = tt
+
+alone_second : (notes : MoveNotes) (both : BothSides History History) (effect : Option Effect)
+    → EntersSo both.second.role both.first.role notes effect → ModuleEntersAlone notes both effect
+alone_second notes both (Some (Enters ticket)) h = swapped_last both.second.role both.first.role notes ticket h
+alone_second notes both effect h = tt
+
+pub record IsNext (notes : MoveNotes) (both : BothSides History History) (o : BothOutcome History History) : Type 0 where
+  pub order : AreInOrder o.both.first.role o.both.second.role (notes_with_effect_if o.effect notes)
+  pub alone : ModuleEntersAlone notes both o.effect
+
+pub event_ordered : (pair : Pair) (both : BothSides History History) (notes : MoveNotes) (which : SideName) (act : BothAct)
+    → AreInOrder both.first.role both.second.role notes
+    → (let o : BothOutcome History History = both_outcome list_mover pair both (record { which = which; act = act }) in
+    IsNew notes o.effect → IsOursIn pair both.tickets notes act → IsNext notes both o)
+event_ordered pair both notes First act h new ours =
+    let o = outcome_here list_mover pair (instance_on pair First) both act in
+    let s = here_ordered pair (instance_on pair First) both notes act h new ours in
+    record { order = s.order; alone = alone_first notes both o.effect s.alone }
+event_ordered pair both notes Second act h new ours =
+    let o = outcome_here list_mover pair (instance_on pair Second) (sides_swapped both) act in
+    let s = here_ordered pair (instance_on pair Second) (sides_swapped both) notes act
+    (roles_swap both.first.role both.second.role notes h) new ours in
+    record {
+      order = roles_swap o.both.first.role o.both.second.role (notes_with_effect_if o.effect notes) s.order;
+      alone = alone_second notes both o.effect s.alone;
+    }
+
+one_from : (pair : Pair) (events : List BothEvent) (both : BothSides History History) (notes : MoveNotes)
+    → AreInOrder both.first.role both.second.role notes → AreFreshFrom pair both notes events → IsOneLiveFrom pair both notes events
+one_from pair [] both notes h fresh = roles_are_one both.first.role both.second.role notes h
+one_from pair (event ∷ events) both notes h fresh =
+    let o : BothOutcome History History = both_outcome list_mover pair both event in
+    let next = event_ordered pair both notes event.which event.act h fresh.0 fresh.1 in (
+      roles_are_one both.first.role both.second.role notes h,
+      next.alone,
+      one_from pair events o.both (notes_with_effect_if o.effect notes) next.order fresh.2,
+    )
+
+pub one_is_live : OneIsLive
+one_is_live pair events fresh = one_from pair events (first_both_by_lists pair) no_notes roles_begin fresh
+
+-- The replies to the calls of both sides are those of one run.
 
 -- a step runs no request backwards
 

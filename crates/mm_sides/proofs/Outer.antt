@@ -10,13 +10,13 @@ use Rattle.mm_sides.proofs.Below.{AreMessagesIn, IsClear, messages_for_move, Dig
 use Rattle.mm_sides.proofs.Below.{call_outcome_by, instance_by, Event, Ask, Checkpoint, Power, Extend, offered_bytes, KeepsHistory}
 use Rattle.mm_sides.proofs.Below.{EventsAgree, IsSoundIn, EventsKeepNames, event_foreign_values, AreApartIn, basic_events_agree}
 use Rattle.mm_sides.proofs.Below.{opt_events_agree, basic_events_keep_names, opt_events_keep_names, read_moves, vain_ask_moves, vain_moves}
-use Rattle.mm_platform.specs.StandingWords.{due_values}
-use Rattle.mm_call.specs.CallOutcomeWords.{position_if_committed}
-use Rattle.mm_schedule.specs.Machine.{IsBatchStep, IsStepWithoutBatch, IsRunStep}
+use Rattle.mm_platform.specs.Standing.{due_values}
+use Rattle.mm_call.specs.CallOutcome.{position_if_committed}
+use Rattle.mm_schedule.specs.Replies.{IsBatchStep, IsStepWithoutBatch, IsRunStep}
 use Rattle.mm_schedule.specs.declared.reply.Way.{Way}
 use Rattle.mm_outcome.proofs.Above.{broken_reply}
 use Rattle.mm_sides.proofs.Below.{way_of}
-use Rattle.mm_model.specs.MessagesWords.{move_messages}
+use Rattle.mm_model.specs.Messages.{move_messages}
 
 -- by what is known of the values
 abbrev pub IsOuter : (List ℕ → Type 0) → Move → Type 0

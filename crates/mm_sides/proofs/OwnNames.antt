@@ -10,11 +10,10 @@ use Rattle.mm_sides.proofs.Below.{found_command, outcome_of_found_move, outcome_
 use Rattle.mm_sides.proofs.Below.{history_now, notes_with_effect_if, IsNew, IsOursIn, AreFreshFrom, AreGenuineFrom, IsGenuineHere}
 use Rattle.mm_sides.proofs.Below.{IsGenuineTo, refusal_for_role, offered_bytes}
 use Rattle.mm_outcome.specs.Premises.{IsGenuineOffer}
-use Rattle.mm_sides.specs.OwnPremise.{AreGenuineByOwnFrom, IsGenuineByOwn, OwnPremiseGivesPremise}
+use Rattle.mm_sides.specs.Premises.{AreGenuineByOwnFrom, IsGenuineByOwn, OwnPremiseGivesPremise}
 use Rattle.mm_sides.proofs.Found.{IsFine, IsTold, IsEnded, ended_told, EntersSo}
 use Rattle.mm_sides.proofs.InOrder.{leaves_live}
-use Rattle.mm_sides.proofs.OneHistory.{affected_history, alike_at, away_history, live_history, turned_history}
-use Rattle.mm_sides.proofs.OneLive.{IsOrdered, here_ordered}
+use Rattle.mm_sides.proofs.OneRun.{affected_history, alike_at, away_history, live_history, turned_history, IsOrdered, here_ordered}
 use Rattle.mm_sides.proofs.Outer.{brought_alike, events_keep_names, in_vain, IsAlike}
 use Rattle.mm_sides.proofs.Rests.{alike_names, names_cross}
 use Rattle.mm_sides.proofs.SideIssues.{event_issues, first_issues}

@@ -12,10 +12,9 @@ use Rattle.mm_sides.proofs.Below.{instance_by, plain_outside, lives, within_item
 use Rattle.mm_sides.proofs.Below.{digest_mover, is_offer_here}
 use Rattle.mm_seal.specs.declared.snapshot.Place.{Place}
 use Rattle.mm_seal.specs.declared.snapshot.Place.TheVariants.{Basic as InBasic, Opt as InOpt}
-use Rattle.mm_model.specs.HistoryWords.{cell_digest_of}
-use Rattle.mm_model.specs.Life.{Live}
+use Rattle.mm_model.specs.History.{cell_digest_of}
+use Rattle.mm_model.specs.Standing.{Live, digest_of}
 use Rattle.mm_model.specs.Verdicts.{is_last, verdict_on, verdict_by_tests, verdict_by_digests}
-use Rattle.mm_model.specs.PlacesWords.{digest_of}
 use Rattle.mm_model.specs.BatchLaws.{at_the_end}
 use Rattle.mm_sides.proofs.Outer.{IsAlike}
 

@@ -11,12 +11,12 @@ use Rattle.mm_sides.proofs.Below.{ticket_in, repeated_entry, acceptance_on, foun
 use Rattle.mm_sides.proofs.Below.{messages_of_closing, offer_closing_messages, command_messages, IsGenuineTo, IsGenuineCommand, IsOurs}
 use Rattle.mm_sides.proofs.Below.{IsOursOffered, IsOursFor}
 use Rattle.mm_call.specs.OfferLaws.{right_is, is_right}
-use Rattle.mm_sides.proofs.Behind.{end_behind, IsBehind, RestsIn, there_same}
+use Rattle.mm_sides.proofs.SideNames.{end_behind, IsBehind, RestsIn, there_same}
 use Rattle.mm_sides.proofs.Rests.{says_again, here_tells, end_of, IsAtEnd, open_same, here_same}
 use Rattle.mm_sides.proofs.WentOn.{WentOn}
 use Rattle.mm_sides.proofs.Below.{history_now, IsWithin, nat_eq, total_of}
 use Rattle.mm_sides.proofs.Found.{stands_by}
-use Rattle.mm_sides.proofs.OneHistory.{live_history}
+use Rattle.mm_sides.proofs.OneRun.{live_history}
 use Rattle.mm_sides.proofs.Twins.{Twin, twin, IsShut, IsNamed, Kept}
 
 if_both : (b : Bool) (p q q' : Result FoundMove DenialCause) → (b ≡ false → q ≡ q') → (if b then p else q) ≡ (if b then p else q')

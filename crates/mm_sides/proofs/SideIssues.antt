@@ -14,8 +14,7 @@ use Rattle.mm_sides.proofs.InOrder.{not_dead, invites_none, roles_begin}
 use Rattle.mm_sides.proofs.Found.{Fits, FitsFound, FitsIn, finding_fits, IsFine, unbroken, found_is, IsEnded, ended_told, affected_order}
 use Rattle.mm_sides.proofs.Found.{enters_so}
 use Rattle.mm_sides.proofs.Outer.{any_value, found_outer, stopped_outer, IsAlike, same_open, brought_alike, events_keep_names, outer_sound}
-use Rattle.mm_sides.proofs.OneHistory.{live_history, away_history, affected_history}
-use Rattle.mm_sides.proofs.OneLive.{IsOrdered, here_ordered}
+use Rattle.mm_sides.proofs.OneRun.{live_history, away_history, affected_history, IsOrdered, here_ordered}
 use Rattle.mm_sides.proofs.Rests.{here_tells, issued_here}
 use Rattle.mm_sides.proofs.SideNames.{alike_issued, sound_holding, life_holding, first_sound_in, first_lives, Issues, turned_issues}
 use Rattle.mm_sides.proofs.SideNames.{brought_issues, plain_issues}

@@ -8,9 +8,9 @@ use Rattle.mm_sides.proofs.Below.{history_now, Refusal, each_left, each_right, l
 use Rattle.mm_sides.proofs.Below.{vain_event_outcome, event_foreign_values, batches_of, event_messages, moves_of, AreApartIn}
 use Rattle.mm_sides.proofs.Below.{refusal_for_role, vain_moves, plain_messages, IsGenuineHere}
 use Rattle.mm_sides.proofs.InOrder.{roles_swap, not_dead}
-use Rattle.mm_sides.proofs.OneHistory.{turned_history, alike_at}
+use Rattle.mm_sides.proofs.OneRun.{turned_history, alike_at}
 use Rattle.mm_sides.proofs.Rests.{names_cross, alike_names, issued_cross, within_cross, sound_in}
-use Rattle.mm_sides.proofs.Behind.{behind_alike, behind_later, IsBehind, went_alike, went_event}
+use Rattle.mm_sides.proofs.SideNames.{behind_alike, behind_later, IsBehind, went_alike, went_event}
 use Rattle.mm_sides.proofs.Outer.{in_vain, IsAlike, same_open, events_agree, events_keep_names, vain_same}
 
 -- what by digests is apart from lists: roles, snapshots, tickets and the count of requests are the same

@@ -16,24 +16,19 @@ use Rattle.std.specs.List.{flat_map, list_any}
 use Rattle.mm_digest.specs.Messages.{anchored_digest_of, extended_message, start_digest_of}
 use Rattle.mm_evidence.proofs.Above.{fronts_cases, IsLonger}
 use Rattle.mm_model.proofs.Above.{shut_current}
-use Rattle.mm_model.specs.BasicLaws.{basic_stands}
-use Rattle.mm_model.specs.BatchLaws.{same_fronts, same_tests}
-use Rattle.mm_model.specs.ChainLaws.{trail_front}
+use Rattle.mm_model.specs.BatchLaws.{basic_stands, same_fronts, same_tests}
+use Rattle.mm_model.specs.ListLaws.{trail_front, anchor-push, bytes_decide, register_nonzero, same_anchors, same_summaries, ends}
 use Rattle.mm_model.specs.Chains.{anchor_of, closing_message, guard, guard_message, link_message, register_of, summary_of, trail}
-use Rattle.mm_model.specs.ChainsWords.{own_values}
-use Rattle.mm_model.specs.DigestLaws.{anchor-push, bytes_decide, register_nonzero, same_anchors, same_summaries}
+use Rattle.mm_model.specs.Chains.{own_values}
 use Rattle.mm_model.specs.FormLaws.{HasListedMessages, listed_segment}
-use Rattle.mm_model.specs.History.{extension_value}
-use Rattle.mm_model.specs.HistoryLaws.{batches_in-append, has_value-append, length-batches_in, own_values-append, sooner, values_of-clean}
-use Rattle.mm_model.specs.HistoryWords.{cell_digest_of, values_of}
+use Rattle.mm_model.specs.History.{extension_value, cell_digest_of, values_of}
+use Rattle.mm_model.specs.SegmentLaws.{batches_in-append, has_value-append, length-batches_in, own_values-append, sooner, values_of-clean}
+use Rattle.mm_model.specs.SegmentLaws.{joined-append, joined-push, no_segments, not_empty, same_halves, true_not_false}
 use Rattle.mm_model.specs.Verdicts.{is_repeat_form, is_fresh_form, forms_of, is_last, verdict_on, verdict_by_tests, Point, verdict_by}
 use Rattle.mm_model.specs.Verdicts.{verdict_by_digests}
-use Rattle.mm_model.specs.Life.{Live}
-use Rattle.mm_model.specs.ListLaws.{ends}
+use Rattle.mm_model.specs.Standing.{Live, at_anchor, IsAnchorPoint, in_closed, in_current, IsClosedPoint, IsCurrentPoint, IsClean, IsSound}
+use Rattle.mm_model.specs.Standing.{batches_in}
 use Rattle.mm_model.specs.Messages.{closed_runs, messages_of, register_trail, runs_of}
-use Rattle.mm_model.specs.Places.{at_anchor, IsAnchorPoint, in_closed, in_current, IsClosedPoint, IsCurrentPoint}
-use Rattle.mm_model.specs.SegmentLaws.{joined-append, joined-push, no_segments, not_empty, same_halves, true_not_false}
-use Rattle.mm_model.specs.Sound.{IsClean, IsSound, batches_in}
 use Rattle.mm_seal.specs.declared.snapshot.Place.{Place}
 use Rattle.mm_seal.specs.declared.snapshot.Place.TheVariants.{Basic as InBasic, Opt as InOpt}
 

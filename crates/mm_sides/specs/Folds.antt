@@ -5,11 +5,10 @@ use Rattle.mm_sides.specs.Below.{sealed_snapshot_of, StepFault, Meddle, Stop, Hi
 use Rattle.mm_sides.specs.Below.{End, Done, Fails, StepFate, walk, sealed_ticket, Event, Reply, Way, Outcome, way_of, moves_after_stop}
 use Rattle.mm_sides.specs.Below.{course_of, event_outcome, vain_event_outcome, offered_bytes}
 use Rattle.mm_model.specs.declared.refusal.Refusal.TheVariants as refusal
-use Rattle.mm_sides.specs.Roles.{Role, Blank, Live, Waiting, Retired, Effect, Invites, Leaves, Enters, MoveNotes, notes_with_effect}
+use Rattle.mm_sides.specs.BothSides.{Role, Blank, Live, Waiting, Retired, Effect, Invites, Leaves, Enters, MoveNotes, notes_with_effect}
 use Rattle.mm_sides.specs.BothSides.{SideName, First, Second, Pair, instance_on, SideState, BothSides, sides_swapped, sides_seen_from}
-use Rattle.mm_sides.specs.BothSides.{Mover, list_mover, digest_mover, first_both_by_lists, first_both_by_digests}
-use Rattle.mm_sides.specs.Moves.{MoveCommand, Invite, Retire, Accept, DenialCause, FoundMove, invitation_on, retirement_on, acceptance_on}
-use Rattle.mm_sides.specs.Moves.{ticket_in}
+use Rattle.mm_sides.specs.BothSides.{Mover, list_mover, digest_mover, first_both_by_lists, first_both_by_digests, MoveCommand, Invite}
+use Rattle.mm_sides.specs.BothSides.{Retire, Accept, DenialCause, FoundMove, invitation_on, retirement_on, acceptance_on, ticket_in}
 
 -- What happens on a side: an event of a schedule; or a command that moves the module, while others
 -- extend the register just before certain steps, and which may be stopped at a step.

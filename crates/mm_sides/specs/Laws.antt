@@ -3,11 +3,10 @@ use Rattle.std.specs.Prelude.{◌≡◌, ℕ, List, [], ◌∷◌, ◌++◌, len
 use Rattle.std.specs.List.{AllByRecursion}
 use Rattle.mm_sides.specs.Below.{Variant, Quiet, counter, History, requests_of, Digests, DigestsAgree, Event, IsEventRun, Last, Reply}
 use Rattle.mm_sides.specs.Below.{IsIssued}
-use Rattle.mm_sides.specs.Roles.{Live, Retired, Effect, Enters, MoveNotes, no_notes}
+use Rattle.mm_sides.specs.BothSides.{Live, Retired, Effect, Enters, MoveNotes, no_notes, SideName, First, Second, Pair, instance_on}
+use Rattle.mm_sides.specs.BothSides.{SideState, BothSides, history_now, list_mover, digest_mover, first_both_by_lists, Invite, Retire}
+use Rattle.mm_sides.specs.BothSides.{Accept}
 use Rattle.mm_sides.specs.Order.{ModuleEntersByLast, AreNotBothLive}
-use Rattle.mm_sides.specs.BothSides.{SideName, First, Second, Pair, instance_on, SideState, BothSides, history_now, list_mover}
-use Rattle.mm_sides.specs.BothSides.{digest_mover, first_both_by_lists}
-use Rattle.mm_sides.specs.Moves.{Invite, Retire, Accept}
 use Rattle.mm_sides.specs.Folds.{BothAct, Plain, Moves, BothEvent, BothReply, Said, both_outcome, BothRunOutcome, both_outcome_of_events}
 use Rattle.mm_sides.specs.Folds.{both_outcome_by_lists, both_outcome_by_digests, notes_with_effect_if}
 use Rattle.mm_sides.specs.Premises.{IsClearPair, IsGenuinePair, IsFreshPair}

@@ -1,10 +1,6 @@
 pub mod Below
-pub mod Roles
-pub mod Order
 pub mod BothSides
-pub mod Moves
+pub mod Order
 pub mod Folds
 pub mod Premises
-pub mod OwnPremise
 pub mod Laws
-pub mod Evidence

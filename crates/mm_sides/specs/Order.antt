@@ -3,8 +3,8 @@
 use Rattle.std.specs.Prelude.{◌≡◌, ◌≢◌, ℕ, true, false, List, [], ◌∷◌, ◌++◌, map}
 use Rattle.std.specs.List.{AllByRecursion, Contains}
 use Rattle.mm_sides.specs.Below.{TicketContent}
-use Rattle.mm_sides.specs.Roles.{Role, Blank, Live, Waiting, Retired, Effect, Invites, Leaves, Enters, role_after, is_live, MoveNotes}
-use Rattle.mm_sides.specs.Roles.{no_notes, notes_with_effect}
+use Rattle.mm_sides.specs.BothSides.{Role, Blank, Live, Waiting, Retired, Effect, Invites, Leaves, Enters, role_after, is_live, MoveNotes}
+use Rattle.mm_sides.specs.BothSides.{no_notes, notes_with_effect}
 
 abbrev pub nonces_of : List TicketContent → List (List ℕ)
 nonces_of tickets = map (λ (ticket : TicketContent). ticket.nonce) tickets

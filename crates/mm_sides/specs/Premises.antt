@@ -1,16 +1,18 @@
 -- The messages that a run of both sides hashes, as far as a proof looks at them, and what is asked
--- of the run.
-use Rattle.std.specs.Prelude.{ℕ, List, [], ◌∷◌, ◌++◌, Option, None, Some, Result, Ok, Err, map, if◌then◌else◌}
+-- of the run. With it: a premise that asks more than that of both sides; the evidence that one
+-- holds in hand of a run of both sides that doesn't meet its premises.
 use Rattle.std.specs.List.{Contains}
+use Rattle.std.specs.Prelude.{ℕ, List, [], ◌∷◌, ◌++◌, Option, None, Some, Result, Ok, Err, map, if◌then◌else◌, ◌≡◌, ◌⊎◌}
 use Rattle.mm_sides.specs.Below.{start_message, Content, Meddle, Stop, Batch, History, Move, Foreign, PowerMove, Instance, is_long, IsClear}
 use Rattle.mm_sides.specs.Below.{place_messages, DeviceStep, Reads, Refusal, messages_of_moves, walk, right_content, TicketContent, Event}
 use Rattle.mm_sides.specs.Below.{Ask, Checkpoint, Power, Extend, course_of, offered_bytes, moves_of, event_messages, event_foreign_values}
-use Rattle.mm_sides.specs.Below.{batches_of, IsGenuineEvent, AreApartIn, IsGenuineOffer}
-use Rattle.mm_sides.specs.Roles.{Role, Live, Retired, Effect, Invites, MoveNotes, no_notes}
-use Rattle.mm_sides.specs.BothSides.{First, Pair, instance_on, SideState, BothSides, sides_seen_from, history_now, list_mover}
-use Rattle.mm_sides.specs.BothSides.{first_both_by_lists}
-use Rattle.mm_sides.specs.Moves.{MoveCommand, Retire, Accept, FoundMove, DenialCause, ticket_in}
+use Rattle.mm_sides.specs.Below.{batches_of, IsGenuineEvent, AreApartIn, IsGenuineOffer, Offer, HasClash, IsForged, IsFrontWithoutEvidence}
+use Rattle.mm_sides.specs.Below.{IsLongest}
+use Rattle.mm_sides.specs.BothSides.{Role, Live, Retired, Effect, Invites, MoveNotes, no_notes, First, Pair, instance_on, SideState}
+use Rattle.mm_sides.specs.BothSides.{BothSides, sides_seen_from, history_now, list_mover, first_both_by_lists, MoveCommand, Retire, Accept}
+use Rattle.mm_sides.specs.BothSides.{FoundMove, DenialCause, ticket_in}
 use Rattle.mm_sides.specs.Folds.{BothAct, Plain, Moves, BothEvent, move_steps, found_command, both_outcome, notes_with_effect_if}
+use Rattle.mm_sides.specs.Folds.{both_outcome_by_lists}
 
 -- what others put into a side's register during steps that only read
 abbrev pub read_moves : List Meddle → Stop → List DeviceStep → List Move
@@ -169,3 +171,102 @@ IsGenuinePair pair events = AreGenuineFrom pair (first_both_by_lists pair) event
 
 abbrev pub IsFreshPair : Pair → List BothEvent → Type 0
 IsFreshPair pair events = AreFreshFrom pair (first_both_by_lists pair) no_notes events
+
+-- A premise that asks more than that of both sides: where the module has left, too, a right offer
+-- names a position of the history that its side has. So nobody has sealed it since, not even the
+-- other side.
+
+-- by the history of its own side
+abbrev pub IsGenuineCommandByOwn : Instance → BothSides History History → MoveCommand → Type 0
+IsGenuineCommandByOwn i both (Retire nonce offer) =
+    IsGenuineTo both.first.role i both.first.at (offered_bytes both.first.issued offer)
+IsGenuineCommandByOwn i both command = Unit {0}
+
+abbrev pub IsGenuineByOwn : Instance → BothSides History History → BothAct → Type 0
+IsGenuineByOwn i both (Plain event) = IsGenuinePlain both.first.role i both.first event
+IsGenuineByOwn i both (Moves meddles stop command) = IsGenuineCommandByOwn i both command
+
+abbrev pub AreGenuineByOwnFrom : Pair → BothSides History History → List BothEvent → Type 0
+AreGenuineByOwnFrom pair both [] = Unit {0}
+AreGenuineByOwnFrom pair both (event ∷ events) =
+    IsGenuineByOwn (instance_on pair event.which) (sides_seen_from event.which both) event.act
+    × AreGenuineByOwnFrom pair (both_outcome list_mover pair both event).both events
+
+abbrev pub IsGenuinePairByOwn : Pair → List BothEvent → Type 0
+IsGenuinePairByOwn pair events = AreGenuineByOwnFrom pair (first_both_by_lists pair) events
+
+-- It gives the premise, where nonces and tickets are fresh: what names a position of the history
+-- that a side has names one of the one history, too.
+abbrev pub OwnPremiseGivesPremise : Type 0
+OwnPremiseGivesPremise =
+    (pair : Pair) (events : List BothEvent) → IsFreshPair pair events
+    → IsGenuinePairByOwn pair events → IsGenuinePair pair events
+
+-- The evidence that one holds in hand of a run of both sides that doesn't meet its premises.
+
+-- What an event breaks, where both sides stand so: what is offered to a call, where the module is,
+-- is forged, or what is offered to a retirement, where the module is or has left; an invitation
+-- that has its effect is under a nonce that somebody was invited under before; or a right ticket
+-- that is offered is none that the module has left by.
+pub data IsBreach (pair : Pair) (both : BothSides History History) (notes : MoveNotes)
+    (event : BothEvent) : Type 0 where
+  asked : (meddles : List Meddle) (stop : Stop) (offer : Offer) (batch : Batch)
+      → event.act ≡ Plain (Ask meddles stop offer batch)
+      → (sides_seen_from event.which both).first.role ≡ Live
+      → IsForged (instance_on pair event.which) (sides_seen_from event.which both).first.at
+      (offered_bytes (sides_seen_from event.which both).first.issued offer)
+      → IsBreach pair both notes event
+  retired : (meddles : List Meddle) (stop : Stop) (nonce : List ℕ) (offer : Offer)
+      → event.act ≡ Moves meddles stop (Retire nonce offer)
+      → ((sides_seen_from event.which both).first.role ≡ Live)
+      ⊎ ((left : List ℕ) × ((sides_seen_from event.which both).first.role ≡ Retired left))
+      → IsForged (instance_on pair event.which) (history_now (sides_seen_from event.which both))
+      (offered_bytes (sides_seen_from event.which both).first.issued offer)
+      → IsBreach pair both notes event
+  invited : (nonce : List ℕ)
+      → (both_outcome list_mover pair both event).effect ≡ Some (Invites nonce)
+      → Contains notes.invited nonce → IsBreach pair both notes event
+  accepted : (meddles : List Meddle) (stop : Stop) (offer : Offer) (bytes : List ℕ)
+      (ticket : TicketContent) → event.act ≡ Moves meddles stop (Accept offer)
+      → offered_bytes both.tickets offer ≡ Some bytes → ticket_in pair bytes ≡ Ok ticket
+      → (Contains notes.retired ticket → ⊥) → IsBreach pair both notes event
+
+-- the notes of what these events have moved
+abbrev pub notes_after : Pair → BothSides History History → MoveNotes → List BothEvent → MoveNotes
+notes_after pair both notes [] = notes
+notes_after pair both notes (event ∷ events) =
+    let o = both_outcome list_mover pair both event in
+    notes_after pair o.both (notes_with_effect_if o.effect notes) events
+
+-- The evidence that events on both sides give: as those on one platform do; or one event breaks
+-- something.
+pub data HasPairEvidence (pair : Pair) (events : List BothEvent) : Type 0 where
+  clash : HasClash (instance_on pair First) (both_messages pair events) (both_foreign_values events)
+      (both_batches events) → HasPairEvidence pair events
+  breach : (before : List BothEvent) (event : BothEvent) (later : List BothEvent)
+      → events ≡ before ++ event ∷ later
+      → IsBreach pair (both_outcome_by_lists pair before).both
+      (notes_after pair (first_both_by_lists pair) no_notes before) event
+      → HasPairEvidence pair events
+
+-- what is asked of a run of both sides
+abbrev pub MeetsPairPremises : Pair → List BothEvent → Type 0
+MeetsPairPremises pair events =
+    IsClearPair pair events × IsGenuinePair pair events × IsFreshPair pair events
+
+-- A run of both sides meets the premises, or gives evidence; and never both.
+pub record IsDecidedPair (pair : Pair) (events : List BothEvent) : Type 0 where
+  pub decided : MeetsPairPremises pair events ⊎ HasPairEvidence pair events
+  pub apart : IsClearPair pair events → IsGenuinePair pair events → IsFreshPair pair events
+      → HasPairEvidence pair events → ⊥
+
+abbrev pub PairsAreDecided : Type 0
+PairsAreDecided = (pair : Pair) (events : List BothEvent) → IsDecidedPair pair events
+
+-- The events before the first one that gives evidence are the longest first part that meets the
+-- premises.
+abbrev pub PairFrontsAreLongest : Type 0
+PairFrontsAreLongest =
+    (pair : Pair) (events front : List BothEvent)
+    → IsFrontWithoutEvidence (HasPairEvidence pair) events front
+    → IsLongest (HasPairEvidence pair) (MeetsPairPremises pair) events front

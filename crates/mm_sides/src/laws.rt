@@ -1,8 +1,7 @@
 //! The laws of two sides, each the contract of a function that does nothing.
 
 ghost use Rattle.mm_sides.specs.Order.{RolesBegin, RolesSwap, RolesGoOn, RolesEnterLast, RolesAreOne};
-ghost use Rattle.mm_sides.specs.Evidence.{PairsAreDecided, PairFrontsAreLongest};
-ghost use Rattle.mm_sides.specs.OwnPremise.{OwnPremiseGivesPremise};
+ghost use Rattle.mm_sides.specs.Premises.{PairsAreDecided, PairFrontsAreLongest, OwnPremiseGivesPremise};
 ghost use Rattle.mm_sides.specs.Laws.{PairsAgreeThroughout, OneIsLive, SidesRunAsOne, PairsGoOn, SidesIssueNames, PremisesAreMet};
 
 use mm_history::names_are_decided;

@@ -1,23 +1,28 @@
--- A slot over its platform: where no call is in flight, behind a call that is over, and what is planned behind steps that were made.
-use Rattle.mm_slots.proofs.Below.{◌≡◌, ◌∙◌, ◌+◌, ◌^◌, ◌≤◌, ◌<◌, ℕ, List, [], ◌∷◌, Option, None, Some, refl, sym, ap, subst}
+-- A slot over its platform: where no call is in flight, behind a call that is over, and what is
+-- planned behind steps that were made. With it: the slots at first.
 use Rattle.std.specs.List.{sum_by}
-use Rattle.mm_slots.proofs.Below.{◌-◌, length, arith, vec_capacity, most_members, Variant, Basic, Opt, Meaning, IsLawful, meaning_of}
-use Rattle.mm_slots.proofs.Below.{Standing, Instance, Digests, instance_by, Event, Header, Reply, rising_bytes_from, Outcome, few_committed}
-use Rattle.mm_slots.proofs.Below.{printable, CallReport, CallComesTo, digest_in, flag_in, value_in, HasDigests, IsQuiet, digests_are}
-use Rattle.mm_slots.proofs.Below.{counting, CodeFlight, SlotReply, Replied, Parts, IsSayable, Tenant, tenant_instance, outcome_in}
-use Rattle.mm_slots.proofs.Below.{event_turn, digests_in, slot_in, flight_in, instance_in, FitsFlight, PartsFit, SlotComesTo}
-use Rattle.mm_slots.proofs.Below.{parts_with_flight, HasRegister, within_64, CallEndsIn, next_plan, Bool, true, cond, option_map_or, Meddle}
-use Rattle.mm_slots.proofs.Below.{Quiet, Plan, quiet_plan, plan_by, is_nothing, Going, Flight, SlotTurn, turn_saying}
-use Rattle.mm_slots.proofs.Below.{tenant_with_flight, event_so_far, step_turn, call_in, FitsCall, SlotGoesOn}
-use Rattle.mm_modules.specs.ModulesLaws.{any_is_lawful}
-use Rattle.mm_slots.proofs.Below.{flight_takes_in, meddled, plan_with_meddle, option_map, One}
+use Rattle.std.proofs.lemmas.List.FromFn.{length-range_with_len}
+use Rattle.mm_digest.specs.Messages.{zero_bytes}
 use Rattle.mm_digest.specs.declared.digest.Digest.{Digest}
-use Rattle.mm_flight.proofs.Above.{may_planned}
+use Rattle.mm_modules.specs.ModulesLaws.{any_is_lawful}
 use Rattle.mm_machine.specs.OpSteps.{MayGoOn as MayStep}
-use Rattle.mm_steps.specs.FlightKind.{ask_kind as asks_so, checkpoint_kind}
-use Rattle.mm_slots.specs.HeldParts.{SlotCallFlies}
-use Rattle.mm_slots.specs.declared.flight.Flight.TheVariants as code
 use Rattle.mm_schedule.specs.Replies.{IsPrintable}
+use Rattle.mm_flight.proofs.Above.{may_planned}
+use Rattle.mm_outcome.specs.OneRun.{rising_bytes_from}
+use Rattle.mm_steps.specs.FlightKind.{ask_kind as asks_so, checkpoint_kind}
+use Rattle.mm_slots.specs.declared.flight.Flight.TheVariants as code
+use Rattle.mm_slots.specs.HeldParts.{SlotCallFlies}
+use Rattle.mm_slots.proofs.Below.{◌≡◌, ◌∙◌, ◌+◌, ◌^◌, ◌≤◌, ◌<◌, ℕ, List, [], ◌∷◌, Option, None, Some, refl, sym, ap, subst, ◌-◌, length}
+use Rattle.mm_slots.proofs.Below.{arith, vec_capacity, most_members, Variant, Basic, Opt, Meaning, IsLawful, meaning_of, Standing, Instance}
+use Rattle.mm_slots.proofs.Below.{Digests, instance_by, Event, Header, Reply, Outcome, few_committed, printable, CallReport, CallComesTo}
+use Rattle.mm_slots.proofs.Below.{digest_in, flag_in, value_in, HasDigests, IsQuiet, digests_are, counting, CodeFlight, SlotReply, Replied}
+use Rattle.mm_slots.proofs.Below.{Parts, IsSayable, Tenant, tenant_instance, outcome_in, event_turn, digests_in, slot_in, flight_in}
+use Rattle.mm_slots.proofs.Below.{instance_in, FitsFlight, PartsFit, SlotComesTo, parts_with_flight, HasRegister, within_64, CallEndsIn}
+use Rattle.mm_slots.proofs.Below.{next_plan, Bool, true, cond, option_map_or, Meddle, Quiet, Plan, quiet_plan, plan_by, is_nothing, Going}
+use Rattle.mm_slots.proofs.Below.{Flight, SlotTurn, turn_saying, tenant_with_flight, event_so_far, step_turn, call_in, FitsCall, SlotGoesOn}
+use Rattle.mm_slots.proofs.Below.{flight_takes_in, meddled, plan_with_meddle, option_map, One, ◌++◌, take, get_or, length-take-le}
+use Rattle.mm_slots.proofs.Below.{take_more, first_history, cell_of, cell_spelling, first_digests, register_reading, stands_new, IsFirst}
+use Rattle.mm_slots.proofs.Below.{row_in, items_by_place, first_row, first_rows, Row}
 
 -- where the platform of a slot stands, by the register's value that the slot has
 pub mine_are : (slot : Parts) (d : Digests) → HasDigests (instance_in slot) slot.seat.platform d → HasRegister slot
@@ -241,3 +246,70 @@ takes_value header i d from (code.Asks it) now new meddles next value f e =
 takes_value header i d from (code.Closes it) now new meddles next value f e =
     flight_takes_in checkpoint_kind i d from it.call now new meddles next value f e
     (subst (MayStep it.call) (sym e) (may_planned it.call now (option_map (plan_with_meddle value) now.plan) f.room))
+
+-- The slots at first: each is as its header and number say.
+
+length-rising : (n : ℕ) → length (rising_bytes_from n) ≡ 32
+unfolding rising_bytes_from
+length-rising n = length-range_with_len n 32
+
+-- a seat that was provisioned with the key and barrier of a slot
+pub first_by : (header : Header) (slot : Parts) (key barrier : List ℕ) → key ≡ rising_bytes_from slot.number
+    → barrier ≡ rising_bytes_from (128 + slot.number) → IsFirst header key barrier slot.seat
+    → IsFirst header (rising_bytes_from slot.number) (rising_bytes_from (128 + slot.number)) slot.seat
+first_by header slot key barrier k b is =
+    subst (λ (x : List ℕ). IsFirst header (rising_bytes_from slot.number) x slot.seat) b
+    (subst (λ (x : List ℕ). IsFirst header x barrier slot.seat) k is)
+
+-- a slot over a platform that was provisioned with its key and barrier
+module _ (header : Header) (slot : Parts)
+    (f : IsFirst header (rising_bytes_from slot.number) (rising_bytes_from (128 + slot.number)) slot.seat)
+    (register : slot.register.bytes ≡ zero_bytes) (none : slot.flight ≡ None) where
+  stands_there : HasDigests (instance_in slot) slot.seat.platform (first_digests (tenant_instance header slot.number))
+  stands_there =
+      let i = tenant_instance header slot.number in
+      let cell = cell_spelling (cell_of i first_history) in
+      let new = stands_new header.variant (meaning_of header.«module») (rising_bytes_from slot.number)
+      (rising_bytes_from (128 + slot.number)) cell
+      (length-rising slot.number) (length-rising (128 + slot.number)) refl in
+      let stands = subst (λ (x : Standing). HasDigests i x (first_digests i)) (sym f.platform) new in
+      subst (λ (h : Header). HasDigests (tenant_instance h slot.number) slot.seat.platform (first_digests i)) (sym f.headed) stands
+
+  has_register : HasRegister slot
+  has_register = ap register_reading f.platform ∙ ap Some (sym register)
+
+  pub fits_there : PartsFit slot
+  fits_there = settled slot (first_digests (tenant_instance header slot.number)) none stands_there
+      (subst IsQuiet (sym f.platform) (record { is_on = refl; plan = refl })) has_register
+
+  pub row_there : row_in slot ≡ first_row slot.number header
+  row_there =
+      let d = first_digests (tenant_instance header slot.number) in
+      let digests : digests_in slot ≡ d = mine_are slot d stands_there has_register ∙ (λ j. record d { count = f.committed j }) in
+      λ j. record {
+        header = f.headed j;
+        number = slot.number;
+        slot = record {
+          digests = digests j;
+          issued = f.issued j;
+          flight = ap (flight_in (next_plan slot.seat.platform)) none j;
+        };
+      }
+
+-- one more slot behind these
+more_from : (number : ℕ) (headers : List Header) (header : Header)
+    → items_by_place first_row number (headers ++ header ∷ [])
+    ≡ items_by_place first_row number headers ++ first_row (number + length headers) header ∷ []
+more_from number [] header = let same : number ≡ number + 0 = omega arith in ap (λ (n : ℕ). first_row n header ∷ []) same
+more_from number (first ∷ headers) header =
+    let same : number + 1 + length headers ≡ number + length (first ∷ headers) = omega arith in
+    ap (λ (rows : List Row). first_row number first ∷ rows) (more_from (number + 1) headers header
+    ∙ ap (λ (n : ℕ). items_by_place first_row (number + 1) headers ++ first_row n header ∷ []) same)
+
+pub one_more : (all : List Header) (n number : ℕ) (header d : Header) (rows rows' : List Row) → n < length all → number ≡ n
+    → header ≡ get_or all n d → rows ≡ first_rows (take n all) → rows' ≡ rows ++ first_row number header ∷ []
+    → rows' ≡ first_rows (take (n + 1) all)
+one_more all n number header d rows rows' few is here are more =
+    let size : 0 + length (take n all) ≡ number = omega (arith, length-take-le n all (omega (arith, few)), is) in
+    more ∙ (λ j. are j ++ first_row (sym size j) (here j) ∷ []) ∙ sym (more_from 0 (take n all) (get_or all n d))
+    ∙ ap first_rows (sym (take_more all n d few))

@@ -1,4 +1,24 @@
--- What slots among their events keep: how many requests and snapshots they count.
+-- What slots among their events keep: how many requests and snapshots they count. With it: what all
+-- slots count together, and their last lines; all slots lose their power, one after another; up to
+-- the first event at which a slot's calls give evidence they are one run.
+use Rattle.std.specs.List.{All, sum_by}
+use Rattle.std.specs.Prelude.{take, drop, ◌++◌}
+use Rattle.std.proofs.lemmas.List.Elements.{All-cons, All-head, All-nil, All-set, All-tail, All-weaker}
+use Rattle.std.proofs.lemmas.List.Sums.{sum_by-le, sum_by_more}
+use Rattle.std.proofs.lemmas.Option.{get_or_from_slice_get, slice_get-get_or, slice_get-map}
+use Rattle.mm_platform.specs.Standing.{PowerCycles}
+use Rattle.mm_call.specs.CallOutcome.{reading_steps, moves_seen}
+use Rattle.mm_call.specs.WalkLaws.{seen_none}
+use Rattle.mm_schedule.specs.Events.{Power as PowerLoss}
+use Rattle.mm_outcome.specs.Premises.{IsClearRun, IsGenuineRun}
+use Rattle.mm_evidence.specs.Evidence.{HasEvidence}
+use Rattle.mm_evidence.proofs.Above.{AreDecided, fronts_longest, MeetsPremises, none_is_one, runs_decided, runs_until}
+use Rattle.mm_replay.proofs.Above.{promised_run}
+use Rattle.mm_slots.specs.declared.event.SlotAction.TheVariants as action
+use Rattle.mm_slots.specs.Laws.{HasSlotEvidence, MeetsSlotPremises, OneRunOfSlotUntilEvidence, slot_turn_in, SlotFrontsAreLongest}
+use Rattle.mm_slots.specs.Stage.{committed_count_in, issued_count_in, IsRunOfSlot}
+use Rattle.mm_slots.specs.Tenant.{FlightLacksMemory, StepLacksMemory, first_tenant, tenant_instance, tenant_turn}
+use Rattle.mm_slots.proofs.Alone.{folded_more}
 use Rattle.mm_slots.proofs.Below.{◌≡◌, ◌∙◌, ◌+◌, ◌^◌, ◌≤◌, ◌<◌, ◌==◌, inl, inr, ℕ, zero, suc, Bool, true, false, cond, List, [], ◌∷◌}
 use Rattle.mm_slots.proofs.Below.{length, Option, None, Some, Result, Ok, Err, OnOk, OnErr, refl, sym, ap, subst, arith, slice_get}
 use Rattle.mm_slots.proofs.Below.{slice_set, most_events, most_members, Batch, One, Quiet, Instance, digest_level, state_after_moves}
@@ -8,16 +28,11 @@ use Rattle.mm_slots.proofs.Below.{first_row, first_rows, rows_after_event, event
 use Rattle.mm_slots.proofs.Below.{OneRowLacksMemory, Tenant, Flight, SlotTurn, Meeting, Acts, Loses, instance_of, ActionLacksMemory}
 use Rattle.mm_slots.proofs.Below.{turn_in_flight, begin_turn, event_by, tenant_with_flight, flight_with_meddle, first_flight, turn_saying}
 use Rattle.mm_slots.proofs.Below.{event_turn, event_so_far, Going, is_nothing, outcome_in, stop_at, turn_by_met, Begun, SlotCall, Asks}
-use Rattle.mm_slots.proofs.Below.{Closes}
-use Rattle.std.specs.List.{All}
-use Rattle.std.specs.Prelude.{take, drop, ◌++◌}
-use Rattle.std.proofs.lemmas.List.Elements.{All-cons, All-head, All-nil, All-set, All-tail, All-weaker}
-use Rattle.mm_call.specs.CallOutcome.{reading_steps}
-use Rattle.mm_call.specs.Courses.{moves_seen}
-use Rattle.mm_call.specs.WalkLaws.{seen_none}
-use Rattle.mm_schedule.specs.Events.{Power as PowerLoss}
-use Rattle.mm_slots.specs.declared.event.SlotAction.TheVariants as action
-use Rattle.mm_slots.specs.Tenant.{FlightLacksMemory, StepLacksMemory}
+use Rattle.mm_slots.proofs.Below.{Closes, ◌*◌, get_or, append-nil, append_assoc, length-take-le, take_more, slot_end_line, end_lines}
+use Rattle.mm_slots.proofs.Below.{within_64, IsCounted, map, take_more_set, drop_more, drop-set-lt, map-append, option_map, Standing}
+use Rattle.mm_slots.proofs.Below.{new_platform, standing_after_cycle, Slots, selected_standing, slots_after_cycle, meaning_of}
+use Rattle.mm_slots.proofs.Below.{rising_bytes_from, turn_over_all, rows_after_all, slot_meetings}
+use Rattle.mm_slots.proofs.Telling.{premises_give, RunsAreDecided}
 
 -- what one thing that a slot meets adds to its counts
 record Grows (old new : Tenant) : Type 0 where
@@ -230,3 +245,160 @@ keeps_first headers some most = record {
   most = omega (arith, most, first_length 0 headers);
   few = omega arith;
 }
+
+-- What all slots count together, and their last lines.
+
+pub requests_few : (rows : List Row) → All (IsWithin most_events) rows → committed_count_in rows
+    ≤ length rows * (most_members * most_events)
+requests_few rows all = sum_by-le (λ (row : Row). row.slot.digests.count) (most_members * most_events) rows
+    (All-weaker (IsWithin most_events) (λ row. row.slot.digests.count ≤ most_members * most_events) (λ row w. w.few) rows all)
+
+pub snapshots_few : (rows : List Row) → All (IsWithin most_events) rows → issued_count_in rows ≤ length rows * (most_events + 1)
+snapshots_few rows all = sum_by-le (λ (row : Row). length row.slot.issued) (most_events + 1) rows
+    (All-weaker (IsWithin most_events) (λ row. length row.slot.issued ≤ most_events + 1) (λ row w. w.short) rows all)
+
+pub are_counted : (rows : List Row) → All (IsWithin most_events) rows → All IsCounted rows
+are_counted rows all = All-weaker (IsWithin most_events) IsCounted (λ row w. let short = w.short in omega (arith, short)) rows all
+
+-- the last lines
+
+ends_more : (number : ℕ) (rows : List Row) (row : Row) → end_lines number (rows ++ row ∷ [])
+    ≡ end_lines number rows ++ slot_end_line (number + length rows) row.slot.digests.count (length row.slot.issued)
+ends_more number [] row =
+    ap (λ (n : ℕ). slot_end_line n row.slot.digests.count (length row.slot.issued) ++ []) (omega arith) ∙ append-nil _
+ends_more number (first ∷ rows) row =
+    let line = slot_end_line number first.slot.digests.count (length first.slot.issued) in
+    let last : ℕ → List ℕ = λ n. slot_end_line n row.slot.digests.count (length row.slot.issued) in
+    let same : number + 1 + length rows ≡ number + length (first ∷ rows) = omega arith in
+    ap (λ (rest : List ℕ). line ++ rest) (ends_more (number + 1) rows row)
+    ∙ sym (append_assoc line (end_lines (number + 1) rows) (last (number + 1 + length rows)))
+    ∙ ap (λ (n : ℕ). line ++ end_lines (number + 1) rows ++ last n) same
+
+pub ends_on : (rows : List Row) (n number : ℕ) (d found : Row) (start before after : List ℕ) → n < length rows → number ≡ n
+    → found ≡ get_or rows n d → before ≡ start ++ end_lines 0 (take n rows)
+    → after ≡ before ++ slot_end_line number found.slot.digests.count (length found.slot.issued)
+    → after ≡ start ++ end_lines 0 (take (n + 1) rows)
+ends_on rows n number d found start before after few is here had ends =
+    let row = get_or rows n d in
+    let last : ℕ → List ℕ = λ k. slot_end_line k row.slot.digests.count (length row.slot.issued) in
+    let e : after ≡ before ++ last number =
+    ends ∙ ap (λ (r : Row). before ++ slot_end_line number r.slot.digests.count (length r.slot.issued)) here in
+    let front = end_lines 0 (take n rows) in
+    let size : 0 + length (take n rows) ≡ number = omega (arith, length-take-le n rows (omega (arith, few)), is) in
+    e ∙ ap (λ (x : List ℕ). x ++ last number) had ∙ append_assoc start front (last number)
+    ∙ ap (λ (x : List ℕ). start ++ x) (ap (λ (k : ℕ). front ++ last k) (sym size)
+    ∙ sym (ends_more 0 (take n rows) row) ∙ ap (end_lines 0) (sym (take_more rows n d few)))
+
+-- All slots lose their power, one after another.
+
+-- so many slots have lost it, and the others are as they were
+abbrev pub AreCycled : List Standing → List Standing → ℕ → Type 0
+AreCycled before now i = (take i now ≡ map standing_after_cycle (take i before)) × (drop i now ≡ drop i before)
+
+pub one_more : (before now : List Standing) (i : ℕ) (n x : Standing) → i < length now → i < length before
+    → n ≡ standing_after_cycle (get_or now i x)
+    → AreCycled before now i → AreCycled before (slice_set now i n) (i + 1)
+one_more before now i n x few few' is are =
+    let both : get_or now i x ∷ drop (i + 1) now ≡ get_or before i x ∷ drop (i + 1) before =
+    sym (drop_more now i x few) ∙ are.1 ∙ drop_more before i x few' in
+    let same : get_or now i x ≡ get_or before i x = cc in
+    let rest : drop (i + 1) now ≡ drop (i + 1) before = cc in (
+      take_more_set now i n few ∙ ap (λ (front : List Standing). front ++ n ∷ []) are.0
+          ∙ ap (λ (y : Standing). map standing_after_cycle (take i before) ++ y ∷ []) (is ∙ ap standing_after_cycle same)
+          ∙ sym (map-append standing_after_cycle (take i before) (get_or before i x ∷ [])) ∙ ap (map standing_after_cycle)
+          (sym (take_more before i x few')),
+      drop-set-lt (i + 1) now i n (omega arith) ∙ rest,
+    )
+
+-- the selected slot, once all have lost it
+selected_cycled : (s : Slots) → s.selected < length s.slots → selected_standing (slots_after_cycle s) ≡ standing_after_cycle
+    (selected_standing s)
+selected_cycled s inside =
+    let d : Standing = new_platform [] in
+    get_or_from_slice_get (map standing_after_cycle s.slots) s.selected (standing_after_cycle (get_or s.slots s.selected d)) d
+    (slice_get-map standing_after_cycle s.slots s.selected ∙ ap (λ found. option_map standing_after_cycle found)
+    (slice_get-get_or s.slots s.selected d inside))
+
+cycles : (old : Standing) → PowerCycles old (standing_after_cycle old) None
+cycles old = record {
+  is_emptied = true;
+  cell = refl;
+  items = refl;
+  steps = refl;
+  writes = refl;
+  cycles = refl;
+  room = omega arith;
+  plan = refl;
+  ends = (refl, refl, refl);
+  told = λ _. refl;
+}
+
+pub cycles_selected : (old new : Slots) → new ≡ slots_after_cycle old → old.selected < length old.slots
+    → PowerCycles (selected_standing old) (selected_standing new) None
+cycles_selected old new is inside =
+    subst (λ (s : Standing). PowerCycles (selected_standing old) s None) (sym (ap selected_standing is ∙ selected_cycled old inside))
+    (cycles (selected_standing old))
+
+-- Up to the first event at which a slot's calls give evidence they are one run.
+
+meetings-append : (number : ℕ) (front later : List SlotEvent) (rows : List Row)
+    → slot_meetings number rows (front ++ later) ≡ slot_meetings number rows front
+    ++ slot_meetings number (rows_after_all rows front) later
+meetings-append number [] later rows = refl
+meetings-append number (event ∷ front) later rows =
+    let here = event_meetings number rows event in
+    ap (λ (mets : List Meeting). here ++ mets) (meetings-append number front later (rows_after_event rows event))
+    ∙ sym (append_assoc here _ _)
+
+module _ (headers : List Header) (number : ℕ) (header : Header) where
+  abbrev i : Instance
+  i = tenant_instance header number
+
+  abbrev turn : List SlotEvent → SlotTurn
+  turn events = slot_turn_in headers number header events
+
+  -- what is over in the first events is over in all
+  events-append : (front later : List SlotEvent)
+      → (more : List Event) × ((turn (front ++ later)).events ≡ (turn front).events ++ more)
+  events-append front later =
+      let rows = first_rows headers in
+      let first = slot_meetings number rows front in
+      let rest = slot_meetings number (rows_after_all rows front) later in (
+        (turn_over_all i (turn front).slot rest).events,
+        ap (λ (mets : List Meeting). (tenant_turn header number mets).events) (meetings-append number front later rows)
+            ∙ ap (λ (it : SlotTurn). it.events) (folded_more i (first_tenant i) first rest),
+      )
+
+  module _ (decided : RunsAreDecided) where
+    known : AreDecided (HasSlotEvidence headers number header) (MeetsSlotPremises headers number header)
+    known =
+        let runs : AreDecided (HasEvidence i) (MeetsPremises i) =
+        runs_decided i (decided header.variant (meaning_of header.«module») (rising_bytes_from number)
+        (rising_bytes_from (128 + number))) in
+        record { decided = λ events. runs.decided (turn events).events; apart = λ events. runs.apart (turn events).events }
+
+    meets_front : ((j : Instance) (front later : List Event) → IsClearRun j (front ++ later) → IsClearRun j front)
+        → ((j : Instance) (front later : List Event) → IsGenuineRun j (front ++ later) → IsGenuineRun j front)
+        → (front later : List SlotEvent) → MeetsSlotPremises headers number header (front ++ later)
+        → MeetsSlotPremises headers number header front
+    meets_front clear genuine front later meets =
+        let more = events-append front later in (
+          clear i (turn front).events more.0 (subst (λ (es : List Event). IsClearRun i es) more.1 meets.0),
+          genuine i (turn front).events more.0 (subst (λ (es : List Event). IsGenuineRun i es) more.1 meets.1),
+        )
+
+  -- where nothing was over yet
+  none_over : IsRunOfSlot number header (turn [])
+  none_over = promised_run header.variant header.«module» (rising_bytes_from number) (rising_bytes_from (128 + number)) [] _ (none_is_one i)
+
+pub until_evidence : RunsAreDecided → OneRunOfSlotUntilEvidence
+until_evidence decided headers events shown runs number header at =
+    runs_until (HasSlotEvidence headers number header) (MeetsSlotPremises headers number header) (known headers number header decided)
+    events (λ front. IsRunOfSlot number header (slot_turn_in headers number header front)) (none_over headers number header)
+    (λ front later is meets. premises_give decided headers events shown runs front later is number header at meets.0 meets.1)
+
+pub slot_fronts_longest : RunsAreDecided → ((j : Instance) (front later : List Event) → IsClearRun j (front ++ later) → IsClearRun j front)
+    → ((j : Instance) (front later : List Event) → IsGenuineRun j (front ++ later) → IsGenuineRun j front) → SlotFrontsAreLongest
+slot_fronts_longest decided clear genuine headers number header events front u =
+    fronts_longest (HasSlotEvidence headers number header) (MeetsSlotPremises headers number header)
+    (known headers number header decided) (meets_front headers number header decided clear genuine) events front u

@@ -1,16 +1,8 @@
 mod Below
-mod Powering
+mod Growing
 mod Alone
-mod Running
 mod Fitting
 mod Stepping
 mod Beginning
 mod Rowing
 mod Telling
-mod Following
-mod Starting
-mod Totalling
-mod Progressing
-mod Growing
-mod Seeing
-mod UntilEvidence

@@ -1,11 +1,16 @@
--- One slot of many goes on, or loses its power, and the others stay.
+-- One slot of many goes on, or loses its power, and the others stay. With it: what the parts of a
+-- slot come to, as contracts see the slot; the other slots lose their power where a call is cut,
+-- and what an event leaves of them.
+use Rattle.std.specs.Prelude.{nat_lt}
+use Rattle.mm_bytes.specs.declared.fault.Memory.{Memory}
+use Rattle.mm_slots.proofs.Alone.{folded_more}
 use Rattle.mm_slots.proofs.Below.{◌≡◌, ◌∙◌, ◌+◌, ◌≤◌, ◌<◌, ◌==◌, ℕ, zero, suc, Bool, true, false, cond, List, [], ◌∷◌, ◌++◌, length, get_or}
 use Rattle.mm_slots.proofs.Below.{slice_set, Option, refl, sym, ap, append-nil, arith, eq-eqb, ne_eqb, eqb-true, nat_tests, if◌then◌else◌}
 use Rattle.mm_slots.proofs.Below.{option_map_or, slice_get-get_or, SlotAction, SlotReply, SlotTurn, Meeting, Acts, Loses, turn_by_action}
 use Rattle.mm_slots.proofs.Below.{Row, instance_of, row_after, items_by_place, OneRowLacksMemory, RowActs, RowLacksMemory, SlotActsAt}
-use Rattle.mm_slots.proofs.Below.{rows_after_meetings, meetings_at, losses_of_others, Result, Ok, Err, IfOk, OnErr}
-use Rattle.std.specs.Prelude.{nat_lt}
-use Rattle.mm_slots.proofs.Alone.{folded_more}
+use Rattle.mm_slots.proofs.Below.{rows_after_meetings, meetings_at, losses_of_others, Result, Ok, Err, IfOk, OnErr, ◌^◌, subst, Parts}
+use Rattle.mm_slots.proofs.Below.{Tenant, slot_in, instance_in, row_in, PartsFit, SlotGoesOn, SlotTakes, SlotLosesPower, CanCount, At}
+use Rattle.mm_slots.proofs.Below.{is_cut, is_cut_for_all, event_meetings, EventTells}
 
 -- a row that meets more
 row_more : (row : Row) (xs ys : List Meeting) → row_after (row_after row xs) ys ≡ row_after row (xs ++ ys)
@@ -165,3 +170,82 @@ on_ok (Err e) p q leads h = tt
 pub on_err : {T E : Type 0} (r : Result T E) (p q : Type 0) → (p → q) → OnErr r p → OnErr r q
 on_err (Ok x) p q leads h = tt
 on_err (Err e) p q leads h = leads h
+
+-- What the parts of a slot come to, as contracts see the slot.
+
+-- the row of a slot that went on
+row_on : (old new : Parts) (s : Tenant) → SlotGoesOn old new → slot_in new ≡ s → row_in new ≡ record (row_in old) { slot = s }
+row_on old new s g stands = λ j. record { header = g.header j; number = g.number j; slot = stands j }
+
+module _ (old new : Parts) (row : Row) (is : row_in old ≡ row) (what : SlotAction) where
+  pub few_on : CanCount row → old.seat.committed < 2 ^ 63
+  few_on few = subst CanCount (sym is) few
+
+  pub fits_on : (r : Result SlotReply Memory) → SlotTakes what old new r → PartsFit new
+  fits_on (Ok said) c = c.goes.fits
+  fits_on (Err memory) l = l.goes.fits
+
+  pub acts_on : (r : Result SlotReply Memory) → SlotTakes what old new r → IfOk r (RowActs what row (row_in new))
+  acts_on (Ok said) c = subst (λ (x : Row). RowActs what x (row_in new) said) is (record {
+    stands = row_on old new (turn_by_action (instance_in old) (slot_in old) what).slot c.goes c.stands;
+    says = c.says;
+    sayable = c.sayable;
+  })
+  acts_on (Err memory) l = tt
+
+  pub lacks_on : (r : Result SlotReply Memory) → SlotTakes what old new r → OnErr r (RowLacksMemory what row (row_in new))
+  lacks_on (Ok said) c = tt
+  lacks_on (Err memory) l = subst (λ (x : Row). RowLacksMemory what x (row_in new)) is (record {
+    same = row_on old new (slot_in new) l.goes refl;
+    wants = l.wants;
+  })
+
+pub loses_on : (old new : Parts) (row : Row) → row_in old ≡ row → SlotLosesPower old new → row_in new ≡ row_after row (Loses ∷ [])
+loses_on old new row is l =
+    let after = (row_after (row_in old) (Loses ∷ [])).slot in
+    subst (λ (x : Row). row_in new ≡ row_after x (Loses ∷ [])) is (row_on old new after l.goes l.stands)
+
+-- The other slots lose their power where a call is cut, and what an event leaves of them.
+
+-- where it is a cut the others lose their power
+
+pub uncut_loses : (but : ℕ) (cuts : Bool) (rows : List Row) → cuts ≡ false
+    → rows ≡ rows_after_meetings (λ k. if cuts then losses_of_others but k else []) rows
+uncut_loses but true rows is = cc
+uncut_loses but false rows is = touched_none rows
+
+pub cut_loses : (but : ℕ) (cuts : Bool) (rows rows' : List Row) → cuts ≡ true → rows' ≡ rows_after_meetings (losses_of_others but) rows
+    → rows' ≡ rows_after_meetings (λ k. if cuts then losses_of_others but k else []) rows
+cut_loses but true rows rows' is l = l
+cut_loses but false rows rows' is l = cc
+
+-- what a slot meets where one acts, and where that is a cut
+acts_then : (number k : ℕ) (what : SlotAction) (own cuts : Bool) → (k == number) ≡ own
+    → meetings_at number (Acts what) k ++ cond cuts (losses_of_others number k) [] ≡ cond own (Acts what ∷ []) (cond cuts (Loses ∷ []) [])
+acts_then number k what true true own = rw own refl
+acts_then number k what true false own = rw own refl
+acts_then number k what false true own = rw own refl
+acts_then number k what false false own = rw own refl
+
+pub tells : (number : ℕ) (what : SlotAction) (cuts : Bool) (first second last : List Row) (said : SlotReply)
+    → cuts ≡ is_cut_for_all first number what
+    → SlotActsAt number what first second said → last ≡ rows_after_meetings (λ k. if cuts then losses_of_others number k else []) second
+    → EventTells number what first last said
+tells number what cuts first second last said is a l =
+    let f : ℕ → List Meeting = meetings_at number (Acts what) in
+    let g : ℕ → List Meeting = λ k. if cuts then losses_of_others number k else [] in
+    record {
+      stands = l ∙ ap (rows_after_meetings g) a.stands ∙ touched_more f g first
+          ∙ touched_same (λ k. f k ++ g k) (λ k. event_meetings k first (At number what)) first
+          (λ k few. acts_then number k what (k == number) cuts refl
+          ∙ ap (λ (c : Bool). cond (k == number) (Acts what ∷ []) (cond c (Loses ∷ []) [])) is);
+      says = a.says;
+      sayable = a.sayable;
+    }
+
+-- whether it is a cut is told by the slot
+pub cuts_at : (number : ℕ) (what : SlotAction) (rows : List Row) (d : Row) (cuts : Bool) → number < length rows
+    → cuts ≡ is_cut (get_or rows number d).slot.flight what → cuts ≡ is_cut_for_all rows number what
+cuts_at number what rows d cuts few is =
+    is ∙ sym (ap (λ (found : Option Row). option_map_or (λ (r : Row). is_cut r.slot.flight what) found false)
+    (slice_get-get_or rows number d few))

@@ -8,23 +8,21 @@ use Rattle.mm_slots.proofs.Below.{outcome_in, event_turn, turn_saying, tenant_wi
 use Rattle.mm_slots.proofs.Below.{digests_in, slot_in, call_in, instance_in, PartsFit, SlotLacksMemory, SlotComesTo, parts_with_flight}
 use Rattle.mm_slots.proofs.Below.{flight_in, HasRegister, CallEndsIn, count_none, vec_capacity}
 use Rattle.mm_bytes.specs.declared.fault.Memory.{Memory}
-use Rattle.mm_platform.specs.Steps.{fault_at}
+use Rattle.mm_platform.specs.Standing.{fault_at}
 use Rattle.mm_model.specs.declared.answer.BatchAnswer.{BatchAnswer}
-use Rattle.mm_call.specs.CallOutcome.{reading_steps}
-use Rattle.mm_call.specs.Courses.{moves_seen}
+use Rattle.mm_call.specs.CallOutcome.{reading_steps, moves_seen}
 use Rattle.mm_call.specs.WalkLaws.{seen_none}
 use Rattle.mm_machine.specs.OpSteps.{number_of}
 use Rattle.mm_machine.specs.declared.call.OpResult.{OpResult}
 use Rattle.mm_machine.specs.declared.call.OpStage.{OpStage}
 use Rattle.mm_opt.specs.declared.segment.CheckpointRefusal.{CheckpointRefusal}
-use Rattle.mm_opt.specs.ClosingOperation.{closing_operation as checkpoint}
+use Rattle.mm_opt.specs.Checkpoints.{closing_operation as checkpoint}
 use Rattle.mm_opt.specs.declared.segment.Checkpointed.{Checkpointed}
-use Rattle.mm_ask.specs.Operating.{ask_operation, write_step_of}
-use Rattle.mm_world.specs.OwnCalls.{HasRead}
-use Rattle.mm_world.specs.Calls.{stopped_step}
-use Rattle.mm_world.specs.PlannedCall.{TellsAsk, TellsCheckpoint}
+use Rattle.mm_ask.specs.WholeAsk.{ask_operation, write_step_of}
+use Rattle.mm_world.specs.WorldStanding.{HasRead}
+use Rattle.mm_world.specs.Calls.{stopped_step, TellsAsk, TellsCheckpoint}
 use Rattle.mm_steps.specs.FlightKind.{StepComesTo, ask_kind as asks_so, outcome_of_stopped_ask, checkpoint_kind, outcome_of_stopped_closing}
-use Rattle.mm_steps.specs.FlightStop.{BreaksNext}
+use Rattle.mm_steps.specs.FlightKind.{BreaksNext}
 use Rattle.mm_steps.specs.declared.flying.FlightOutcome.{FlightOutcome}
 use Rattle.mm_steps.specs.declared.flying.FlightOutcome.TheVariants as steps
 use Rattle.mm_slots.specs.HeldParts.{SlotCallFlies, MayGoOn}

@@ -3,9 +3,10 @@ use Rattle.mm_slots.proofs.Below.{◌≡◌, ◌∙◌, ◌≤◌, ◌<◌, ℕ,
 use Rattle.mm_slots.proofs.Below.{Some, refl, sym, ap, subst, arith, codes, slice_get, option_map, nat_tests, Header, rest_after_prefix}
 use Rattle.mm_slots.proofs.Below.{number_at, rising_bytes_from, SlotEvent, end_lines, event_at, SlotsRun, slots_steps, kept_bytes_in, Row}
 use Rattle.mm_slots.proofs.Below.{first_row, first_rows, answers, slot_meetings, rows_after_all, meaning_of}
-use Rattle.mm_play.specs.StageShows.{StageShows}
+use Rattle.mm_play.specs.Stage.{StageShows}
 use Rattle.mm_replay.proofs.Above.{promised_run}
-use Rattle.mm_slots.specs.Grammar.{slot_count_at}
+use Rattle.mm_slots.specs.Stage.{slot_count_at, AreSlotRuns, IsRunOfSlot, IsSlotRun, slots_player, first_slots_state, slots_heads}
+use Rattle.mm_slots.specs.Stage.{slots_stage}
 use Rattle.mm_call.specs.Standing.{instance_by}
 use Rattle.mm_digest.specs.declared.variant.Variant.{Variant}
 use Rattle.mm_evidence.specs.Laws.{IsDecidedRun}
@@ -13,13 +14,11 @@ use Rattle.mm_module.specs.Meaning.{Meaning}
 use Rattle.mm_outcome.specs.Premises.{IsClearRun, IsGenuineRun}
 use Rattle.mm_schedule.specs.Events.{Event}
 use Rattle.std.proofs.Common.{append_assoc, inl, inr}
-use Rattle.mm_slots.specs.Headline.{AreSlotRuns, IsRunOfSlot, IsSlotRun, slots_player}
 use Rattle.mm_slots.specs.Laws.{PremisesGiveSlotRuns, SlotsGoOn}
 use Rattle.mm_slots.specs.Tenant.{tenant_turn, tenant_instance}
 use Rattle.mm_slots.specs.Table.{rows_after_event, answers_to}
 use Rattle.std.proofs.lemmas.List.{append-nil}
 use Rattle.mm_slots.proofs.Below.{SlotAnswer, ◌+◌}
-use Rattle.mm_slots.specs.Stage.{first_slots_state, slots_heads, slots_stage}
 use Rattle.mm_slots.proofs.Alone.{alone, by_place_get, bound, length-items_by_place, takes, rows_behind, texts_behind}
 
 -- each slot's row at first

@@ -1,33 +1,42 @@
--- The parts of a slot in code, and what they keep.
+-- The parts of a slot in code, and what they keep. With it: a slot of a platform is lent; events of
+-- slots whose bytes still lie in their line.
+use Rattle.std.specs.Borrow.{Lends, MutBor, Fml}
 use Rattle.std.specs.Prelude.{◌≡◌, ◌+◌, ◌<◌, ℕ, false, List, [], ◌∷◌, length, Option, None, Some, vec_capacity, Result, Ok, Err}
 use Rattle.mm_bytes.specs.declared.fault.Memory.{Memory}
+use Rattle.mm_platform.specs.contracts.memory.MemPlatform.{the_row as slot_row}
+use Rattle.mm_platform.specs.Standing.{Plan, Standing, next_plan}
+use Rattle.mm_platform.specs.declared.plan.Meddle.{Meddle}
 use Rattle.mm_module.specs.Batch.{One}
 use Rattle.mm_modules.specs.Modules.{meaning_of}
-use Rattle.mm_platform.specs.Standing.{Plan, Standing}
-use Rattle.mm_platform.specs.PlannedSteps.{next_plan}
-use Rattle.mm_model.specs.Instance.{Instance}
-use Rattle.mm_model.specs.Long.{is_long}
-use Rattle.mm_model.specs.Moves.{Digests}
+use Rattle.mm_model.specs.Chains.{Instance}
+use Rattle.mm_model.specs.Moves.{is_long, Digests}
 use Rattle.mm_model.specs.Standing.{register_reading}
-use Rattle.mm_world.specs.declared.call.CallReport.{CallReport}
+use Rattle.mm_schedule.specs.Events.{offer_of}
 use Rattle.mm_schedule.specs.declared.event.Offer.{Offer}
 use Rattle.mm_schedule.specs.declared.header.Header.{Header}
 use Rattle.mm_outcome.specs.EventOffers.{offered_bytes}
-use Rattle.mm_platform.specs.declared.plan.Meddle.{Meddle}
+use Rattle.mm_world.specs.Seat.{EndsCall}
+use Rattle.mm_world.specs.WorldStanding.{digest_in, flag_in, HasDigests, IsQuiet}
+use Rattle.mm_world.specs.declared.call.CallReport.{CallReport}
 use Rattle.mm_steps.specs.FlightKind.{IsInFlight, ask_kind as asks_so, checkpoint_kind}
-use Rattle.mm_world.specs.HeldWorld.{digest_in, flag_in}
-use Rattle.mm_world.specs.WorldStanding.{HasDigests, IsQuiet}
+use Rattle.mm_slots.specs.contracts.platform.SlotPlatform.{the_row}
+use Rattle.mm_slots.specs.declared.event.SlotAction.{SlotAction}
+use Rattle.mm_slots.specs.declared.event.SlotAction.TheVariants as action
+use Rattle.mm_slots.specs.declared.event.SlotEvent.{SlotEvent}
+use Rattle.mm_slots.specs.declared.event.SlotEvent.TheVariants as event
 use Rattle.mm_slots.specs.declared.flight.Flight.{Flight as CodeFlight}
 use Rattle.mm_slots.specs.declared.flight.Flight.TheVariants as code
 use Rattle.mm_slots.specs.declared.parts.Parts.{Parts}
+use Rattle.mm_slots.specs.declared.read.ActionText.{ActionText}
+use Rattle.mm_slots.specs.declared.read.ActionText.TheVariants as text
+use Rattle.mm_slots.specs.declared.read.SlotEventText.{SlotEventText}
+use Rattle.mm_slots.specs.declared.read.SlotEventText.TheVariants as event_text
 use Rattle.mm_slots.specs.declared.said.SlotReply.{SlotReply}
 use Rattle.mm_slots.specs.declared.said.SlotReply.TheVariants.{Replied}
-use Rattle.mm_slots.specs.Answers.{IsSayable}
-use Rattle.mm_world.specs.Seat.{EndsCall}
-use Rattle.mm_slots.specs.declared.event.SlotAction.{SlotAction}
+use Rattle.mm_slots.specs.Stage.{Slots, with_slot}
+use Rattle.mm_slots.specs.Table.{IsSayable, Row}
 use Rattle.mm_slots.specs.Tenant.{Tenant, Flight, SlotCall, Asks, Closes, SlotTurn, ActionLacksMemory, tenant_instance, power_turn}
 use Rattle.mm_slots.specs.Tenant.{turn_by_action}
-use Rattle.mm_slots.specs.Table.{Row}
 
 -- what a call in flight asks
 abbrev pub call_in : CodeFlight → SlotCall
@@ -157,3 +166,24 @@ SlotTakes what old new (Err memory) = SlotLacksMemory what old new
 pub record SlotLosesPower (old new : Parts) : Type 0 where
   pub goes : SlotGoesOn old new
   pub stands : slot_in new ≡ (power_turn (instance_in old) (slot_in old)).slot
+
+-- A slot of a platform is lent.
+
+-- the platform ends with the slot of this number as it is left
+abbrev pub LendsSlot : MutBor Slots → ℕ → MutBor Standing → Fml
+LendsSlot s number slot = Lends the_row slot_row s slot (with_slot s.now number)
+
+-- Events of slots whose bytes still lie in their line.
+
+-- what happens in a slot, by its line
+abbrev pub action_in : ActionText → SlotAction
+action_in (text.Begin from request) = action.Begin (offer_of from) request.now
+action_in text.Close = action.Close
+action_in text.Step = action.Step
+action_in (text.Break how) = action.Break how
+action_in (text.Extend value) = action.Extend value
+
+-- the event that stands in a line
+abbrev pub event_in : SlotEventText → SlotEvent
+event_in event_text.Power = event.Power
+event_in (event_text.At slot what) = event.At slot (action_in what)

@@ -1,7 +1,7 @@
 -- The laws of slots.
 use Rattle.std.specs.Prelude.{◌≡◌, ℕ, List, [], ◌∷◌, ◌++◌, Some, slice_get}
 use Rattle.std.specs.List.{flat_map}
-use Rattle.mm_model.specs.Instance.{Instance}
+use Rattle.mm_model.specs.Chains.{Instance}
 use Rattle.mm_schedule.specs.declared.header.Header.{Header}
 use Rattle.mm_schedule.specs.declared.reply.Reply.{Reply}
 use Rattle.mm_schedule.specs.declared.reply.Reply.TheVariants as reply
@@ -19,7 +19,7 @@ use Rattle.mm_slots.specs.declared.said.SlotReply.TheVariants.{Replied}
 use Rattle.mm_slots.specs.Tenant.{Tenant, SlotTurn, Meeting, turn_over_all, first_tenant, tenant_turn, tenant_instance}
 use Rattle.mm_slots.specs.Table.{SlotAnswer, Row, instance_of, row_after, rows_after_all, answers, first_rows, slot_meetings}
 use Rattle.mm_slots.specs.Table.{slot_replies_for}
-use Rattle.mm_slots.specs.Headline.{AreSlotRuns, IsRunOfSlot}
+use Rattle.mm_slots.specs.Stage.{AreSlotRuns, IsRunOfSlot}
 
 -- A slot of a table is where its own fold leaves it, and what is said for it is what its fold says:
 -- over what it meets, and over nothing else.

@@ -1,15 +1,6 @@
-pub mod Slots
-pub mod SlotLoan
+pub mod Stage
+pub mod HeldParts
 pub mod Tenant
 pub mod Table
 pub mod Laws
-pub mod Grammar
-pub mod Texts
-pub mod Answers
-pub mod HeldParts
-pub mod Rows
-pub mod Stage
-pub mod Headline
-pub mod WholeSlots
 pub mod StageLaws
-pub mod Opening

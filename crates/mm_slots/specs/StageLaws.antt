@@ -6,14 +6,12 @@ use Rattle.std.proofs.Common.{refl, sym, ap, subst, arith, length-append}
 use Rattle.std.proofs.lemmas.Bool.Decides.{nat_tests}
 use Rattle.mm_schedule.specs.declared.header.Header.{Header}
 use Rattle.mm_schedule.specs.Headers.{header_of_words}
-use Rattle.mm_play.specs.HeadingStep.{HeadingStep, More, Begins}
-use Rattle.mm_play.specs.StageShows.{heading_step_by}
-use Rattle.mm_play.specs.Stage.{answer_by}
+use Rattle.mm_play.specs.Headline.{HeadingStep, More, Begins}
+use Rattle.mm_play.specs.Stage.{heading_step_by, answer_by}
 use Rattle.mm_play.specs.StageLaws.{same_stage}
 use Rattle.mm_slots.specs.declared.event.SlotEvent.{SlotEvent}
-use Rattle.mm_slots.specs.Grammar.{slot_count_at, event_at}
-use Rattle.mm_slots.specs.Stage.{SlotsState, OpeningStage, AtFirst, AtHeads, slots_state_after, are_to_come, first_slots_state}
-use Rattle.mm_slots.specs.Stage.{remaining_heads, slots_steps, slots_heads, slots_stage}
+use Rattle.mm_slots.specs.Stage.{slot_count_at, event_at, SlotsState, OpeningStage, AtFirst, AtHeads, slots_state_after, are_to_come}
+use Rattle.mm_slots.specs.Stage.{first_slots_state, remaining_heads, slots_steps, slots_heads, slots_stage}
 
 -- a line leads to more lines of the opening
 abbrev LeadsTo : Option (HeadingStep OpeningStage (List Header)) → OpeningStage → Type 0

@@ -1,15 +1,22 @@
--- The slots of one platform.
-use Rattle.std.specs.Prelude.{◌≡◌, ℕ, ◌+◌, ◌==◌, Bool, true, false, List, [], ◌∷◌, ◌++◌, map, Option, Some, slice_get}
-use Rattle.std.specs.Prelude.{slice_set, ◌⊎◌, if◌then◌else◌}
+-- The slots of one platform. With it: the lines that answer events of slots; what becomes of the
+-- slots of a platform, or of one of them.
+use Rattle.std.specs.Fmt.{decimal}
+use Rattle.std.specs.List.{flat_map, All}
 use Rattle.std.specs.Option.{option_map_or}
-use Rattle.mm_model.specs.Instance.{Instance}
+use Rattle.std.specs.Prelude.{◌≡◌, ℕ, ◌+◌, ◌==◌, Bool, true, false, List, [], ◌∷◌, ◌++◌, map, Option, Some, slice_get, slice_set, ◌⊎◌}
+use Rattle.std.specs.Prelude.{if◌then◌else◌, length, codes, ◌≤◌, ◌<◌, ◌*◌, ◌^◌}
+use Rattle.mm_bytes.specs.Limits.{most_events, most_members}
+use Rattle.mm_model.specs.Chains.{Instance}
+use Rattle.mm_schedule.specs.Replies.{IsPrintable}
 use Rattle.mm_schedule.specs.declared.header.Header.{Header}
+use Rattle.mm_replay.specs.Schedule.{text_of_replies}
+use Rattle.mm_slots.specs.declared.event.CallBreak.TheVariants as breaking
 use Rattle.mm_slots.specs.declared.event.SlotAction.{SlotAction}
 use Rattle.mm_slots.specs.declared.event.SlotAction.TheVariants as action
-use Rattle.mm_slots.specs.declared.event.CallBreak.TheVariants as breaking
 use Rattle.mm_slots.specs.declared.event.SlotEvent.{SlotEvent}
 use Rattle.mm_slots.specs.declared.event.SlotEvent.TheVariants.{Power, At}
 use Rattle.mm_slots.specs.declared.said.SlotReply.{SlotReply}
+use Rattle.mm_slots.specs.declared.said.SlotReply.TheVariants.{Busy, Idle, Begun, Going, Replied}
 use Rattle.mm_slots.specs.Tenant.{Tenant, Flight, ActionLacksMemory, Meeting, Acts, Loses, turn_by_action, turn_over_all, tenant_instance}
 use Rattle.mm_slots.specs.Tenant.{first_tenant}
 
@@ -111,3 +118,104 @@ first_row number header =
 
 abbrev pub first_rows : List Header → List Row
 first_rows headers = items_by_place first_row 0 headers
+
+-- The lines that answer events of slots.
+
+-- what is said, with its LF
+abbrev pub slot_reply_text : SlotReply → List ℕ
+slot_reply_text Busy = codes "no busy" ++ 10 ∷ []
+slot_reply_text Idle = codes "no idle" ++ 10 ∷ []
+slot_reply_text Begun = codes "begun" ++ 10 ∷ []
+slot_reply_text (Going step) = codes "going " ++ decimal step ++ 10 ∷ []
+slot_reply_text (Replied reply) = text_of_replies reply
+
+-- what has to be met to be said: short outputs, and positions of at most 2^48
+abbrev pub IsSayable : SlotReply → Type 0
+IsSayable (Replied reply) = IsPrintable reply
+IsSayable said = Unit {0}
+
+-- the line of an answer: what is said for a slot stands behind its number and a space
+abbrev pub answer_text : SlotAnswer → List ℕ
+answer_text PowerLost = codes "power" ++ 10 ∷ []
+answer_text (Says number said) = decimal number ++ 32 ∷ slot_reply_text said
+
+abbrev pub answers_text : List SlotAnswer → List ℕ
+answers_text answers = flat_map answer_text answers
+
+-- the line `end I N K`: in slot I so many requests were committed, and so many snapshots issued
+abbrev pub slot_end_line : ℕ → ℕ → ℕ → List ℕ
+slot_end_line number committed issued =
+    codes "end " ++ decimal number ++ 32 ∷ [] ++ decimal committed ++ 32 ∷ [] ++ decimal issued
+    ++ 10 ∷ []
+
+-- the last lines, one for each slot, from this number on
+abbrev pub end_lines : ℕ → List Row → List ℕ
+end_lines number [] = []
+end_lines number (row ∷ rows) =
+    slot_end_line number row.slot.digests.count (length row.slot.issued)
+    ++ end_lines (number + 1) rows
+
+-- What becomes of the slots of a platform, or of one of them.
+
+-- Something happened in a slot, and this was said.
+pub record RowActs (what : SlotAction) (old new : Row) (said : SlotReply) : Type 0 where
+  pub stands : new ≡ row_after old (Acts what ∷ [])
+  pub says : (turn_by_action (instance_of old) old.slot what).said ≡ said ∷ []
+  pub sayable : IsSayable said
+
+-- Memory was wanting for what happened in a slot.
+pub record RowLacksMemory (what : SlotAction) (old new : Row) : Type 0 where
+  pub same : new ≡ record old { slot = new.slot }
+  pub wants : ActionLacksMemory (instance_of old) what old.slot new.slot
+
+-- each slot after what it meets, by its number
+abbrev pub rows_after_meetings : (ℕ → List Meeting) → List Row → List Row
+rows_after_meetings mets rows = items_by_place (λ number row. row_after row (mets number)) 0 rows
+
+-- one slot meets something
+abbrev pub meetings_at : ℕ → Meeting → ℕ → List Meeting
+meetings_at number met other = if other == number then met ∷ [] else []
+
+-- all slots lose their power but the one with this number
+abbrev pub losses_of_others : ℕ → ℕ → List Meeting
+losses_of_others but number = if number == but then [] else Loses ∷ []
+
+-- Something happened in the slot with this number, and in no other, and this was said.
+pub record SlotActsAt (number : ℕ) (what : SlotAction) (old new : List Row)
+    (said : SlotReply) : Type 0 where
+  pub stands : new ≡ rows_after_meetings (meetings_at number (Acts what)) old
+  pub says : slot_replies_at old number what ≡ said ∷ []
+  pub sayable : IsSayable said
+
+-- Something happened in the slot with this number, by which others may have lost their power, and
+-- this was said.
+pub record EventTells (number : ℕ) (what : SlotAction) (old new : List Row)
+    (said : SlotReply) : Type 0 where
+  pub stands : new ≡ rows_after_event old (At number what)
+  pub says : slot_replies_at old number what ≡ said ∷ []
+  pub sayable : IsSayable said
+
+-- 64 bits count the requests of one more event
+abbrev pub CanCount : Row → Type 0
+CanCount row = row.slot.digests.count < 2 ^ 63
+
+-- 32 bits count the snapshots
+abbrev pub IsCounted : Row → Type 0
+IsCounted row = length row.slot.issued < 2 ^ 32
+
+-- the slot has committed and issued no more than so many events can
+pub record IsWithin (events : ℕ) (row : Row) : Type 0 where
+  pub few : row.slot.digests.count ≤ most_members * events
+  pub short : length row.slot.issued ≤ events + 1
+
+-- what slots among their events keep
+pub record KeepsAll (rows : List Row) (events : ℕ) : Type 0 where
+  pub within : All (IsWithin events) rows
+  pub some : 1 ≤ length rows
+  pub most : length rows ≤ 16
+  pub few : events ≤ most_events
+
+-- the event is in one of so many slots, or in all
+abbrev pub IsInside : ℕ → SlotEvent → Type 0
+IsInside slots Power = Unit {0}
+IsInside slots (At number what) = number < slots

@@ -6,10 +6,9 @@ use Rattle.mm_modules.specs.Modules.{meaning_of}
 use Rattle.mm_platform.specs.declared.plan.Meddle.{Meddle}
 use Rattle.mm_platform.specs.declared.plan.Stop.{Stop}
 use Rattle.mm_platform.specs.declared.plan.Stop.TheVariants as stop
-use Rattle.mm_model.specs.Instance.{Instance}
-use Rattle.mm_model.specs.Long.{is_long}
-use Rattle.mm_model.specs.Moves.{Digests}
-use Rattle.mm_call.specs.Levels.{digest_level}
+use Rattle.mm_model.specs.Chains.{Instance}
+use Rattle.mm_model.specs.Moves.{is_long, Digests}
+use Rattle.mm_call.specs.CallFinding.{digest_level}
 use Rattle.mm_call.specs.CallOutcome.{state_seen}
 use Rattle.mm_call.specs.Standing.{instance_by}
 use Rattle.mm_schedule.specs.Events.{Event, Ask, Checkpoint, Power, Extend}
@@ -17,10 +16,10 @@ use Rattle.mm_schedule.specs.declared.event.Offer.{Offer}
 use Rattle.mm_schedule.specs.declared.header.Header.{Header}
 use Rattle.mm_schedule.specs.declared.reply.Reply.{Reply}
 use Rattle.mm_schedule.specs.declared.reply.Reply.TheVariants as reply
-use Rattle.mm_outcome.specs.Folds.{Outcome, course_of, event_outcome, first_snapshots, first_digests}
-use Rattle.mm_outcome.specs.WorldState.{rising_bytes_from}
+use Rattle.mm_outcome.specs.Premises.{Outcome, course_of, event_outcome, first_snapshots, first_digests}
+use Rattle.mm_outcome.specs.OneRun.{rising_bytes_from}
 use Rattle.mm_outcome.specs.EventOffers.{offered_bytes}
-use Rattle.mm_steps.specs.FlightStop.{is_nothing, stop_behind}
+use Rattle.mm_steps.specs.FlightKind.{is_nothing, stop_behind}
 use Rattle.mm_slots.specs.declared.event.SlotAction.{SlotAction}
 use Rattle.mm_slots.specs.declared.event.SlotAction.TheVariants as action
 use Rattle.mm_slots.specs.declared.event.CallBreak.{CallBreak}

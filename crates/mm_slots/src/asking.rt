@@ -34,7 +34,7 @@ fn bytes_offered(alloc: Global, issued: &[Bytes], offer: &Offer) -> Result<Optio
 
 impl AskedRequest {
     ghost use Rattle.std.specs.Prelude.{◌≡◌, false};
-    ghost use Rattle.mm_model.specs.Long.{is_long};
+    ghost use Rattle.mm_model.specs.Moves.{is_long};
     ghost use Rattle.mm_module.specs.Batch.{One};
     ghost use Rattle.mm_module.specs.Batches.{batch_of};
 

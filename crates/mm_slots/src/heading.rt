@@ -2,8 +2,7 @@
 
 ghost use Rattle.std.specs.Prelude.{◌≡◌, ◌++◌, ◌∷◌, []};
 ghost use Rattle.mm_play.specs.Stage.{TakesHead};
-ghost use Rattle.mm_slots.specs.Opening.{AddsHead, opening_in};
-ghost use Rattle.mm_slots.specs.Stage.{AtFirst, AtHeads, slots_heads};
+ghost use Rattle.mm_slots.specs.Stage.{AddsHead, opening_in, AtFirst, AtHeads, slots_heads};
 
 use crate::heads::Heads;
 use crate::read::read_first;

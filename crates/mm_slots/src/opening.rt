@@ -18,8 +18,7 @@ pub struct SlotsHeading {
 }
 
 impl Model for SlotsHeading {
-    ghost use Rattle.mm_slots.specs.Opening.{opening_in};
-    ghost use Rattle.mm_slots.specs.Stage.{OpeningStage as Stands};
+    ghost use Rattle.mm_slots.specs.Stage.{opening_in, OpeningStage as Stands};
 
     ghost Value = { Stands };
 

@@ -17,7 +17,7 @@ pub struct SlotPlatform {
 
 impl Model for SlotPlatform {
     ghost use Rattle.std.specs.Prelude.{◌<◌, length};
-    ghost use Rattle.mm_slots.specs.Slots.{Slots};
+    ghost use Rattle.mm_slots.specs.Stage.{Slots};
 
     ghost Value = { Slots };
 
@@ -30,8 +30,8 @@ impl SlotPlatform {
     ghost use Rattle.std.specs.Prelude.{◌≡◌, ◌<◌, ◌≤◌, IfOk, OnOk, OnErr, length, map};
     ghost use Rattle.std.specs.Borrow.{sem};
     ghost use Rattle.mm_platform.specs.Memory.{new_platform};
-    ghost use Rattle.mm_slots.specs.Slots.{selected_standing, standing_in, slots_after_value, slots_with_failure, slots_after_cycle};
-    ghost use Rattle.mm_slots.specs.SlotLoan.{LendsSlot};
+    ghost use Rattle.mm_slots.specs.Stage.{selected_standing, standing_in, slots_after_value, slots_with_failure, slots_after_cycle};
+    ghost use Rattle.mm_slots.specs.HeldParts.{LendsSlot};
 
     /// A platform with these cells of 104 bytes each, one a slot: on, with empty registers and no
     /// faults. Slot 0 is selected.
@@ -112,7 +112,7 @@ impl SlotPlatform {
 }
 
 impl Device for SlotPlatform {
-    ghost use Rattle.mm_slots.specs.Slots.{selected_standing};
+    ghost use Rattle.mm_slots.specs.Stage.{selected_standing};
 
     ghost standing = { selected_standing };
 }
@@ -120,8 +120,8 @@ impl Device for SlotPlatform {
 impl Nv for SlotPlatform {
     ghost use Rattle.std.specs.Prelude.{◌≡◌, ℕ, List, Some, OnOk, OnErr};
     ghost use Rattle.std.specs.Result.{result_err};
-    ghost use Rattle.mm_platform.specs.Steps.{ReadCell, WriteCell, StepGoes};
-    ghost use Rattle.mm_slots.specs.Slots.{selected_standing, KeepsOthers};
+    ghost use Rattle.mm_platform.specs.Standing.{ReadCell, WriteCell, StepGoes};
+    ghost use Rattle.mm_slots.specs.Stage.{selected_standing, KeepsOthers};
 
     fn nv_read(&mut self, into: &mut [u8; CELL_LENGTH]) -> Result<(), StepFault>
         ensures goes { StepGoes ReadCell (selected_standing self.old) (selected_standing self.new)
@@ -147,9 +147,9 @@ impl Nv for SlotPlatform {
 impl Register for SlotPlatform {
     ghost use Rattle.std.specs.Prelude.{◌≡◌, ◌≤◌, List, Some, OnOk, OnErr, IfOk};
     ghost use Rattle.std.specs.Result.{result_err};
-    ghost use Rattle.mm_platform.specs.Standing.{Item, item_values, register_after};
-    ghost use Rattle.mm_platform.specs.Steps.{ReadRegister, ResetRegister, ExtendRegister, StepGoes, RoomGrows};
-    ghost use Rattle.mm_slots.specs.Slots.{selected_standing, KeepsOthers};
+    ghost use Rattle.mm_platform.specs.Standing.{Item, item_values, register_after, ReadRegister, ResetRegister, ExtendRegister, StepGoes};
+    ghost use Rattle.mm_platform.specs.Standing.{RoomGrows};
+    ghost use Rattle.mm_slots.specs.Stage.{selected_standing, KeepsOthers};
 
     fn reg_ready(&mut self) -> Result<(), Memory>
         ensures ok { OnOk result
@@ -194,8 +194,8 @@ impl Register for SlotPlatform {
 impl Platform for SlotPlatform {
     ghost use Rattle.std.specs.Prelude.{◌≡◌};
     ghost use Rattle.std.specs.Result.{result_err};
-    ghost use Rattle.mm_platform.specs.Steps.{PowerCycles};
-    ghost use Rattle.mm_slots.specs.Slots.{selected_standing, slots_after_cycle};
+    ghost use Rattle.mm_platform.specs.Standing.{PowerCycles};
+    ghost use Rattle.mm_slots.specs.Stage.{selected_standing, slots_after_cycle};
 
     fn cycle(&mut self) -> Result<(), StepFault>
         ensures cycles { PowerCycles (selected_standing self.old) (selected_standing self.new)

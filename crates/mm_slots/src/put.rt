@@ -1,8 +1,7 @@
 //! The answers of slots as text.
 
 ghost use Rattle.std.specs.Prelude.{◌≡◌, ◌++◌, OnOk};
-ghost use Rattle.mm_slots.specs.Answers.{slot_reply_text, answer_text, slot_end_line, IsSayable};
-ghost use Rattle.mm_slots.specs.Table.{PowerLost, Says};
+ghost use Rattle.mm_slots.specs.Table.{slot_reply_text, answer_text, slot_end_line, IsSayable, PowerLost, Says};
 
 use crate::said::SlotReply;
 use crate::slot_number::SlotNumber;

@@ -2,8 +2,8 @@
 
 ghost use Rattle.std.specs.Prelude.{◌≡◌, ◌↔◌, ◌≤◌, Some, None, IfOk, IfSome, IsErrOf};
 ghost use Rattle.std.specs.Option.{option_map};
-ghost use Rattle.mm_slots.specs.Grammar.{action_at, begin_action_at, break_at, event_at, slot_count_at, index_at};
-ghost use Rattle.mm_slots.specs.Texts as texts;
+ghost use Rattle.mm_slots.specs.Stage.{action_at, begin_action_at, break_at, event_at, slot_count_at, index_at};
+ghost use Rattle.mm_slots.specs.HeldParts as texts;
 
 use crate::event::{CallBreak, SlotAction, SlotEvent};
 use crate::slot_number::SlotNumber;
@@ -39,7 +39,7 @@ pub enum SlotEventText<'a> {
 
 /// The number of slots that the first line names, as `memoir slots 1 2`: 1 to 16. None where the
 /// line is outside the grammar.
-#[tactic(auto, unfolding(crate::specs::Grammar::slot_count_at))]
+#[tactic(auto, unfolding(crate::specs::Stage::slot_count_at))]
 pub fn read_first(line: &[u8]) -> Option<u8>
     ensures { result ≡ slot_count_at line.now }
 {
@@ -64,7 +64,7 @@ pub fn read_slot_event(alloc: Global, slots: u8, line: &[u8]) -> Result<SlotEven
 }
 
 // The event of a line.
-#[tactic(auto, unfolding(crate::specs::Grammar::event_at))]
+#[tactic(auto, unfolding(crate::specs::Stage::event_at))]
 fn event_in(slots: u8, line: &[u8]) -> Option<SlotEventText<'_>>
     ensures { option_map texts.event_in result ≡ event_at slots line.now }
 {
@@ -78,7 +78,7 @@ fn event_in(slots: u8, line: &[u8]) -> Option<SlotEventText<'_>>
 }
 
 // The number of a slot, a decimal below their number.
-#[tactic(auto, unfolding(crate::specs::Grammar::index_at))]
+#[tactic(auto, unfolding(crate::specs::Stage::index_at))]
 fn index_in(slots: u8, word: &[u8]) -> Option<u8>
     ensures { result ≡ index_at slots word.now }
 {
@@ -90,7 +90,7 @@ fn index_in(slots: u8, word: &[u8]) -> Option<u8>
 }
 
 // What happens in a slot.
-#[tactic(auto, unfolding(crate::specs::Grammar::action_at))]
+#[tactic(auto, unfolding(crate::specs::Stage::action_at))]
 fn action_in(line: &[u8]) -> Option<ActionText<'_>>
     ensures { option_map texts.action_in result ≡ action_at line.now }
 {
@@ -112,7 +112,7 @@ fn action_in(line: &[u8]) -> Option<ActionText<'_>>
 }
 
 // An offer and a request behind `begin`.
-#[tactic(auto, unfolding(crate::specs::Grammar::begin_action_at))]
+#[tactic(auto, unfolding(crate::specs::Stage::begin_action_at))]
 fn begin_in(line: &[u8]) -> Option<ActionText<'_>>
     ensures { option_map texts.action_in result ≡ begin_action_at line.now }
 {
@@ -121,7 +121,7 @@ fn begin_in(line: &[u8]) -> Option<ActionText<'_>>
 }
 
 // How a call is broken off.
-#[tactic(auto, unfolding(crate::specs::Grammar::break_at))]
+#[tactic(auto, unfolding(crate::specs::Stage::break_at))]
 fn breaking_in(line: &[u8]) -> Option<CallBreak>
     ensures { result ≡ break_at line.now }
 {

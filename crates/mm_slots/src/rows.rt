@@ -3,10 +3,9 @@
 ghost use Rattle.std.specs.Prelude.{◌≡◌, ◌<◌, IfOk, OnErr, OnOk, length, if◌then◌else◌, [], ◌∷◌};
 ghost use Rattle.std.specs.List.{All};
 ghost use Rattle.mm_slots.specs.declared.event.SlotEvent.TheVariants.{Power, At};
-ghost use Rattle.mm_slots.specs.Answers.{answers_text};
-ghost use Rattle.mm_slots.specs.Rows.{SlotActsAt, CanCount, IsInside, EventTells, meetings_at, losses_of_others, rows_after_meetings};
+ghost use Rattle.mm_slots.specs.Table.{answers_text, SlotActsAt, CanCount, IsInside, EventTells, meetings_at, losses_of_others};
+ghost use Rattle.mm_slots.specs.Table.{rows_after_meetings, RowsLackMemory, OneRowLacksMemory, rows_after_event, answers_to};
 ghost use Rattle.mm_slots.specs.Tenant.{Loses};
-ghost use Rattle.mm_slots.specs.Table.{RowsLackMemory, OneRowLacksMemory, rows_after_event, answers_to};
 
 use crate::event::{SlotAction, SlotEvent};
 use crate::put::{put_answer, put_power};

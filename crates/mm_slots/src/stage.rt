@@ -25,7 +25,7 @@ pub struct SlotsStage {
 }
 
 impl Model for SlotsStage {
-    ghost use Rattle.mm_slots.specs.Rows.{KeepsAll};
+    ghost use Rattle.mm_slots.specs.Table.{KeepsAll};
     ghost use Rattle.mm_slots.specs.Stage.{SlotsState};
 
     ghost Value = { SlotsState };
@@ -37,11 +37,9 @@ impl Model for SlotsStage {
 
 impl SlotsStage {
     ghost use Rattle.mm_play.specs.Stage.{StageAnswersEvent, answer_by};
-    ghost use Rattle.mm_slots.specs.Answers.{answers_text, end_lines};
-    ghost use Rattle.mm_slots.specs.WholeSlots.{committed_count_in, issued_count_in};
-    ghost use Rattle.mm_slots.specs.Rows.{IsInside};
-    ghost use Rattle.mm_slots.specs.Stage.{SlotsLackMemory, slots_state_after, first_slots_state, slots_steps};
-    ghost use Rattle.mm_slots.specs.Table.{answers_to};
+    ghost use Rattle.mm_slots.specs.Table.{answers_text, end_lines, IsInside, answers_to};
+    ghost use Rattle.mm_slots.specs.Stage.{committed_count_in, issued_count_in, SlotsLackMemory, slots_state_after, first_slots_state};
+    ghost use Rattle.mm_slots.specs.Stage.{slots_steps};
 
     /// Slots at their first event, one for each header.
     pub fn new(alloc: Global, headers: &[Header]) -> Result<SlotsStage, Memory>

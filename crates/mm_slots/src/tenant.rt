@@ -1,7 +1,7 @@
 //! A module in one slot of a platform.
 
 ghost use Rattle.std.specs.Prelude.{◌≡◌, ◌<◌, ◌+◌};
-ghost use Rattle.mm_outcome.specs.WorldState.{rising_bytes_from};
+ghost use Rattle.mm_outcome.specs.OneRun.{rising_bytes_from};
 
 use crate::event::{CallBreak, SlotAction};
 use crate::parts::Parts;
@@ -51,10 +51,9 @@ impl Model for Tenant {
 impl Tenant {
     ghost use Rattle.std.specs.Prelude.{◌≡◌, ◌<◌, ◌^◌, [], ◌∷◌, IfOk, OnErr, length};
     ghost use Rattle.std.specs.List.{sum_by};
-    ghost use Rattle.mm_slots.specs.Rows.{RowActs, RowLacksMemory};
+    ghost use Rattle.mm_slots.specs.Table.{RowActs, RowLacksMemory, first_row, is_cut, row_after};
     ghost use Rattle.mm_world.specs.Lengths.{within_64};
     ghost use Rattle.mm_slots.specs.Tenant.{Loses};
-    ghost use Rattle.mm_slots.specs.Table.{first_row, is_cut, row_after};
 
     /// The slot with this number at first, for the header's module. Its key is that of no other
     /// slot.

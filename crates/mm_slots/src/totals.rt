@@ -2,11 +2,9 @@
 
 ghost use Rattle.std.specs.Prelude.{◌≡◌, ◌≤◌, ◌<◌, ◌^◌, ◌++◌, OnOk, length};
 ghost use Rattle.std.specs.List.{All};
-ghost use Rattle.mm_slots.specs.Answers.{slot_end_line, end_lines};
-ghost use Rattle.mm_slots.specs.WholeSlots.{committed_count_in, issued_count_in};
-ghost use Rattle.mm_slots.specs.Rows.{IsCounted};
+ghost use Rattle.mm_slots.specs.Table.{slot_end_line, end_lines, IsCounted};
+ghost use Rattle.mm_slots.specs.Stage.{committed_count_in, issued_count_in, kept_bytes_in};
 ghost use Rattle.mm_world.specs.Lengths.{within_64};
-ghost use Rattle.mm_slots.specs.Stage.{kept_bytes_in};
 
 use crate::put::put_slot_end;
 use crate::slot_number::SlotNumber;

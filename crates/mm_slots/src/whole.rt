@@ -1,10 +1,8 @@
 //! Slots, from the first line to the last lines.
 
 ghost use Rattle.std.specs.Prelude.{◌≡◌, ℕ, List, Some, Ok};
-ghost use Rattle.mm_play.specs.Play.{outcome_of_input};
-ghost use Rattle.mm_play.specs.PlaysInput.{IsBlamed, IsUnrefused, is_read_fault, is_write_fault};
-ghost use Rattle.mm_slots.specs.Stage.{SlotsStage as Stands, first_slots_stage, slots_answer, slots_closing};
-ghost use Rattle.mm_slots.specs.WholeSlots.{PlaysSlots, ReportsSlots};
+ghost use Rattle.mm_play.specs.PlaysInput.{outcome_of_input, IsBlamed, IsUnrefused, is_read_fault, is_write_fault};
+ghost use Rattle.mm_slots.specs.Stage.{SlotsStage as Stands, first_slots_stage, slots_answer, slots_closing, PlaysSlots, ReportsSlots};
 
 use crate::laws::slots_run;
 use crate::opening::SlotsHeading;

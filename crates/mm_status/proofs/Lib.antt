@@ -1,3 +1,2 @@
 mod Below
-mod Ending
 mod Sending

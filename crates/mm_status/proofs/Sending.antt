@@ -1,7 +1,9 @@
--- Writes that go out one after another.
-use Rattle.mm_status.proofs.Below.{◌≡◌, ◌∙◌, ℕ, List, [], ◌++◌, Option, Result, Ok, Err, sym, ap, append_assoc, append-nil, subst, OnOk}
-use Rattle.mm_status.proofs.Below.{Appends, Appends-trans, SinkSends}
+-- Writes that go out one after another. With it: how the program ends by the answer of a command
+-- that plays lines.
 use Rattle.mm_bytes.specs.declared.fault.WriteFault.{WriteFault}
+use Rattle.mm_base.specs.declared.replay_fault.ReplayFault.TheVariants as fault
+use Rattle.mm_status.proofs.Below.{◌≡◌, ◌∙◌, ℕ, List, [], ◌++◌, Option, Result, Ok, Err, sym, ap, append_assoc, append-nil, subst, OnOk}
+use Rattle.mm_status.proofs.Below.{Appends, Appends-trans, SinkSends, ReplayFault, IsUnrefused, EndsUnrefused, status_of}
 
 -- what comes after a write that failed doesn't go out
 pub SinkSends-stopped : (a b : Option (List ℕ)) (first more : List ℕ) (result : Result (Unit {0}) WriteFault) (fault : WriteFault)
@@ -27,3 +29,12 @@ SinkSends-append a b c first more before result done s was t =
           (Appends-trans a b c s.sent t.sent s.appended t.appended);
       parts = ap (λ bytes. first ++ bytes) t.parts ∙ sym (append_assoc first t.sent t.unsent);
     }
+
+-- How the program ends by the answer of a command that plays lines.
+
+-- an answer that refuses no line ends so
+pub unrefused : {T : Type 0} (answer : Result T ReplayFault) → IsUnrefused answer → EndsUnrefused (status_of answer)
+unrefused (Err (fault.BadLine line)) u = u
+unrefused (Err (fault.LineLong line)) u = u
+unrefused (Err fault.TooMuch) u = u
+unrefused _ u = tt

@@ -1,6 +1,9 @@
--- How the program ends, and what it writes last.
-use Rattle.std.specs.Prelude.{ℕ, List, [], ◌∷◌, ◌++◌, codes, Result, Ok, Err}
+-- How the program ends, and what it writes last. With it: what a command writes.
 use Rattle.std.specs.Fmt.{decimal}
+use Rattle.std.specs.Prelude.{ℕ, List, [], ◌∷◌, ◌++◌, codes, Result, Ok, Err, ◌≡◌, Option}
+use Rattle.mm_bytes.specs.Limits.{CountsFaults}
+use Rattle.mm_bytes.specs.declared.fault.WriteFault as write
+use Rattle.mm_base.specs.Streams.{SinkSends}
 use Rattle.mm_base.specs.declared.replay_fault.ReplayFault.{ReplayFault}
 use Rattle.mm_base.specs.declared.replay_fault.ReplayFault.TheVariants as fault
 use Rattle.mm_status.specs.declared.status.Status.{Status}
@@ -79,3 +82,43 @@ EndsUnrefused ReadFault = Unit {0}
 EndsUnrefused WriteFault = Unit {0}
 EndsUnrefused Memory = Unit {0}
 EndsUnrefused _ = ⊥
+
+-- What a command writes: its text, or the stop line of the status that it ended with.
+
+-- The status's stop line went out, and the output's count is as before; or the output failed within
+-- it, and its count rose. Where there is no stop line, nothing was tried.
+pub record TellsStop (received received' : Option (List ℕ)) (writes writes' : ℕ)
+    (status : Status) : Type 0 where
+  pub result : Result (Unit {0}) write.WriteFault
+  pub sends : SinkSends received received' (stop_line status) result
+  pub counts : CountsFaults writes writes' result
+  pub done : status ≡ Done → writes' ≡ writes
+  pub failed : status ≡ WriteFault → writes' ≡ writes
+
+-- how the program ends by a write's result
+abbrev pub status_by : Result (Unit {0}) write.WriteFault → Status
+status_by (Ok done) = Done
+status_by (Err fault) = WriteFault
+
+-- A text was written, and no stop line: Done where all of it went out, WriteFault where the output
+-- failed within it.
+pub record WritesText (text : List ℕ) (received received' : Option (List ℕ)) (writes writes' : ℕ)
+    (status : Status) : Type 0 where
+  pub result : Result (Unit {0}) write.WriteFault
+  pub sends : SinkSends received received' text result
+  pub counts : CountsFaults writes writes' result
+  pub ends : status ≡ status_by result
+
+-- a status with its stop line
+pub record StopsAs (end : Status) (received received' : Option (List ℕ)) (writes writes' : ℕ)
+    (status : Status) : Type 0 where
+  pub ends : status ≡ end
+  pub stops : TellsStop received received' writes writes' end
+
+-- what was to be told: a text where all was done, and otherwise a status, with its stop line
+abbrev pub TellsLines : Result (List ℕ) Status
+    → (received received' : Option (List ℕ)) (writes writes' : ℕ) → Status → Type 0
+TellsLines (Ok text) received received' writes writes' status =
+    WritesText text received received' writes writes' status
+TellsLines (Err end) received received' writes writes' status =
+    StopsAs end received received' writes writes' status

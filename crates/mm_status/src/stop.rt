@@ -2,7 +2,7 @@
 
 ghost use Rattle.std.specs.Prelude.{◌≡◌, ◌++◌, ◌∷◌, []};
 ghost use Rattle.std.specs.Fmt.{decimal};
-ghost use Rattle.mm_bytes.specs.Faults.{CountsFaults};
+ghost use Rattle.mm_bytes.specs.Limits.{CountsFaults};
 ghost use Rattle.mm_base.specs.Streams.{SinkSends};
 ghost use Rattle.mm_status.specs.Status.{HasFixedLine, stop_line};
 ghost use Rattle.mm_status.specs.declared.status.Status.TheVariants as ended;

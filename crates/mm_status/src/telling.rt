@@ -2,8 +2,7 @@
 
 ghost use Rattle.std.specs.Prelude.{◌≡◌};
 ghost use Rattle.mm_play.specs.PlaysInput.{IsUnrefused};
-ghost use Rattle.mm_status.specs.Status.{EndsUnrefused, status_of};
-ghost use Rattle.mm_status.specs.CommandOutput.{StopsAs, TellsStop, WritesText};
+ghost use Rattle.mm_status.specs.Status.{EndsUnrefused, status_of, StopsAs, TellsStop, WritesText};
 
 use crate::status::Status;
 use crate::stop::write_stop;

@@ -1,6 +1,4 @@
 pub mod Above
 mod Below
 mod Stopping
-mod FlyingSteps
 mod Steps
-mod Beginning

@@ -1,3 +1,1 @@
-pub mod FlightStop
-pub mod FlightSteps
 pub mod FlightKind

@@ -1,8 +1,7 @@
 //! The steps of a call in flight, whatever it asks.
 
 ghost use Rattle.mm_machine.specs.OpSteps.{MayGoOn};
-ghost use Rattle.mm_steps.specs.FlightSteps.{FlightBreaksAs, MayStepOn, FlightStepsAs};
-ghost use Rattle.mm_steps.specs.FlightStop.{BreaksNext};
+ghost use Rattle.mm_steps.specs.FlightKind.{FlightBreaksAs, MayStepOn, FlightStepsAs, BreaksNext};
 
 use mm_bytes::Memory;
 use mm_machine::{OpCall, StepResult, advance, finish};

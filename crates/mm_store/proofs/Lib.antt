@@ -1,5 +1,3 @@
 pub mod Above
 mod Below
-mod SlotLaws
-mod SyncLaws
 mod PendingLaws

@@ -1,14 +1,19 @@
--- Laws of the pending record's bytes.
+-- Laws of the pending record's bytes. With it: laws of slots; laws of what is told of the slots
+-- that have changes that were not synced.
 use Rattle.std.proofs.Common.{ℕ, ◌≡◌, ◌+◌, ◌-◌, ◌<◌, ◌^◌, Some, None, List, [], ◌++◌, length, take, drop, refl, ap, sym, ◌∙◌, arith, subst}
 use Rattle.std.proofs.Common.{length-append, append_assoc}
+use Rattle.std.proofs.lemmas.Bool.{cases_lt}
+use Rattle.std.proofs.lemmas.Bool.Decides.{nat_tests}
 use Rattle.std.proofs.lemmas.List.{append-nil}
 use Rattle.sha2.specs.Sha256.{sha256}
-use Rattle.mm_store.proofs.Below.{length-sha256}
-use Rattle.mm_bytes.specs.Fields.{eight_bytes, four_bytes}
+use Rattle.mm_bytes.specs.DecimalLaws.{joined, append-injective, eight_bytes-injective, four_bytes-injective, length-eight_bytes}
+use Rattle.mm_bytes.specs.DecimalLaws.{length-four_bytes}
+use Rattle.mm_bytes.specs.Limits.{eight_bytes, four_bytes}
 use Rattle.mm_store.specs.PendingRecord.{PendingRecord, IsPending, record_word, pending_front, pending_spelling, ReadsPendingRecord}
 use Rattle.mm_store.specs.PendingRecord.{HasOneReading, SpellsRecord, SpellsNoRecord}
-use Rattle.mm_bytes.specs.FieldLaws.{joined, append-injective, eight_bytes-injective, four_bytes-injective, length-eight_bytes}
-use Rattle.mm_bytes.specs.FieldLaws.{length-four_bytes}
+use Rattle.mm_store.specs.StoreStanding.{Slots, longest_slot, slot_in, slots_with, slots_with_bytes, UnsyncedSlots}
+use Rattle.mm_store.specs.StoreStanding.{unsynced_slots_with_mark, MarksSlotAlone}
+use Rattle.mm_store.proofs.Below.{length-sha256, Option, min, inl, inr, take_all, Bool, true}
 
 -- four parts put at the end one after another
 pub put_in_parts : (old b₁ b₂ b₃ b₄ p₁ p₂ p₃ p₄ q₂ q₃ : List ℕ) → b₁ ≡ old ++ p₁ → b₂ ≡ b₁ ++ p₂ → b₃ ≡ b₂ ++ p₃ →
@@ -147,3 +152,54 @@ reads_some slot bytes front digest q s f is e = (
   joined _ bytes front digest s.0 s.1 ∙ ap (λ (x : List ℕ). front ++ x) e
       ∙ ap (λ (x : List ℕ). x ++ sha256 x) f.spelled,
 )
+
+-- Laws of slots.
+
+pub longest_slot-is : longest_slot ≡ 1100000
+unfolding longest_slot
+longest_slot-is = refl
+
+pub take-min : (n : ℕ) (bytes : List ℕ) → take (min (length bytes) n) bytes ≡ take n bytes
+take-min n bytes =
+    elim (cases_lt n (length bytes)) [
+      | inl few ↦ ap (λ m. take m bytes) (omega arith)
+      | inr all ↦ (take_all (min (length bytes) n) bytes (omega arith) ∙ sym (take_all n bytes all))
+    ]
+
+-- the front of a slot's bytes that has as many of them as a read gives at most
+pub take-longest : (bytes front : List ℕ) (n size : ℕ) → n ≡ longest_slot → size ≡ min (length bytes) n →
+    front ≡ take size bytes → front ≡ take longest_slot bytes
+take-longest bytes front n size e f g =
+    g ∙ ap (λ m. take m bytes) f ∙ take-min n bytes ∙ ap (λ m. take m bytes) e
+
+-- a slot holds what was put there
+pub slot_in-with_slot : (slots : Slots) (n : ℕ) (bytes : List ℕ) → slot_in (slots_with slots n bytes) n ≡ bytes
+slot_in-with_slot slots n bytes = grind (arith, nat_tests)
+
+-- a slot's own bytes change nothing
+pub with_slot-same : (slots : Slots) (n : ℕ) → slots_with slots n (slot_in slots n) ≡ slots
+with_slot-same slots n = grind (arith, nat_tests)
+
+pub putting-twice : (n : ℕ) (one other : List ℕ) (slots : Option Slots) →
+    slots_with_bytes n other (slots_with_bytes n one slots) ≡ slots_with_bytes n other slots
+putting-twice n one other slots = grind (arith, nat_tests)
+
+-- Laws of what is told of the slots that have changes that were not synced.
+
+-- the later mark stands
+marking-twice : (slot : ℕ) (one other : Bool) (marks : Option UnsyncedSlots) →
+    unsynced_slots_with_mark slot other (unsynced_slots_with_mark slot one marks) ≡ unsynced_slots_with_mark slot other marks
+marking-twice slot one other marks = grind (arith, nat_tests)
+
+-- a slot alone is marked
+pub marks_alone : (slot : ℕ) (mark : Bool) (old new : Option UnsyncedSlots) → new ≡ unsynced_slots_with_mark slot mark old →
+    MarksSlotAlone slot old new
+marks_alone slot mark old new e = ap (λ (x : Option UnsyncedSlots). unsynced_slots_with_mark slot true x) e
+    ∙ marking-twice slot mark true old
+
+-- what a slot is marked with in the end
+pub marked_last : (slot : ℕ) (mark : Bool) (old mid new : Option UnsyncedSlots) → MarksSlotAlone slot old mid →
+    new ≡ unsynced_slots_with_mark slot mark mid → new ≡ unsynced_slots_with_mark slot mark old
+marked_last slot mark old mid new before e =
+    e ∙ sym (marking-twice slot true mark mid) ∙ ap (λ (x : Option UnsyncedSlots). unsynced_slots_with_mark slot mark x) before
+    ∙ marking-twice slot true mark old

@@ -1,9 +1,10 @@
--- The record of a request that is pending, and its bytes.
+-- The record of a request that is pending, and its bytes. With it: a pending request in code, as
+-- plain data.
 use Rattle.std.specs.Prelude.{◌≡◌, ◌≢◌, ◌+◌, ◌<◌, ◌≤◌, ◌%◌, ◌^◌, ℕ, List, [], ◌∷◌, ◌++◌, length, Option, None, Some}
 use Rattle.sha2.specs.Sha256.{sha256}
-use Rattle.mm_base.specs.Lines.{IsLineFront}
-use Rattle.mm_bytes.specs.Fields.{eight_bytes, four_bytes}
-use Rattle.mm_bytes.specs.Limits.{last_position, longest_request}
+use Rattle.mm_bytes.specs.Limits.{eight_bytes, four_bytes, last_position, longest_request}
+use Rattle.mm_base.specs.Input.{IsLineFront}
+use Rattle.mm_store.specs.declared.pending.PendingRequest.{PendingRequest}
 
 -- a request, and the position that it is to take
 pub record PendingRecord : Type 0 where
@@ -54,3 +55,8 @@ pub record SpellsRecord (front : List ℕ) (p : PendingRecord) : Type 0 where
 -- the bytes are what is hashed of no record
 abbrev pub SpellsNoRecord : List ℕ → Type 0
 SpellsNoRecord front = (p : PendingRecord) → length p.request < 2 ^ 32 → front ≢ pending_front p
+
+-- A pending request in code, as plain data.
+
+abbrev pub pending_of : PendingRequest → PendingRecord
+pending_of pending = record { position = pending.position; request = pending.request.now }

@@ -12,7 +12,7 @@ pub struct Four<T> {
 }
 
 impl<T> Model for Four<T> {
-    ghost use Rattle.mm_store.specs.Four.{Four};
+    ghost use Rattle.mm_store.specs.StoreStanding.{Four};
 
     ghost Value = { Four T };
 
@@ -22,7 +22,7 @@ impl<T> Model for Four<T> {
 impl<T> Four<T> {
     ghost use Rattle.std.specs.Prelude.{◌≡◌};
     ghost use Rattle.std.specs.Borrow.{Lends, sem};
-    ghost use Rattle.mm_store.specs.Four.{item_at, four_with};
+    ghost use Rattle.mm_store.specs.StoreStanding.{item_at, four_with};
     ghost use Rattle.mm_store.specs.contracts.four.Four.{the_row};
 
     /// These four.

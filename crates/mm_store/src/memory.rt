@@ -1,10 +1,9 @@
 //! A store in memory, which fails as it is told to and not otherwise.
 
 ghost use Rattle.std.specs.Prelude.{◌≡◌, ◌↔◌, ◌<◌, ◌≤◌, IsTrue, false, Err, OnOk, OnErr, length, take, if◌then◌else◌};
-ghost use Rattle.mm_bytes.specs.Faults.{next_count};
-ghost use Rattle.mm_store.specs.Slots.{longest_slot, slot_in, slots_of, slots_with};
-ghost use Rattle.mm_store.specs.Shelf.{Shelf, new_shelf, shelf_standing, shelf_after_call, shelf_after_read, shelf_after_write};
-ghost use Rattle.mm_store.specs.Calls.{ReadsSlot, WritesSlot};
+ghost use Rattle.mm_bytes.specs.Limits.{next_count};
+ghost use Rattle.mm_store.specs.StoreStanding.{longest_slot, slot_in, slots_of, slots_with, Shelf, new_shelf, shelf_standing};
+ghost use Rattle.mm_store.specs.StoreStanding.{shelf_after_call, shelf_after_read, shelf_after_write, ReadsSlot, WritesSlot};
 
 use crate::fault::StoreFault;
 use crate::four::Four;
@@ -147,7 +146,7 @@ impl Store for MemStore {
 }
 
 // What a read of a slot with these bytes gives.
-#[tactic(auto, unfolding(crate::specs::Slots::longest_slot))]
+#[tactic(auto, unfolding(crate::specs::StoreStanding::longest_slot))]
 fn seen(bytes: &[u8]) -> &[u8]
     ensures front { result.now ≡ take longest_slot bytes.now }
     ensures short { length result.now ≤ LONGEST_SLOT }

@@ -3,10 +3,10 @@
 ghost use Rattle.std.specs.Prelude.{◌≡◌, ◌≤◌, ◌+◌, ◌++◌, ◌↔◌, IsTrue, IfOk, OnOk, MatchOption, length};
 ghost use Rattle.std.specs.Option.{option_map};
 ghost use Rattle.sha2.specs.Sha256.{sha256};
-ghost use Rattle.mm_base.specs.Lines.{IsLineFront};
+ghost use Rattle.mm_base.specs.Input.{IsLineFront};
 ghost use Rattle.mm_bytes.specs.Limits.{last_position, longest_request};
-ghost use Rattle.mm_store.specs.PendingRecord.{IsPending, record_word, pending_front, pending_spelling, ReadsPendingRecord, HasOneReading, SpellsRecord, SpellsNoRecord};
-ghost use Rattle.mm_store.specs.Records.{pending_of};
+ghost use Rattle.mm_store.specs.PendingRecord.{IsPending, record_word, pending_front, pending_spelling, ReadsPendingRecord, HasOneReading};
+ghost use Rattle.mm_store.specs.PendingRecord.{SpellsRecord, SpellsNoRecord, pending_of};
 
 use mm_bytes::{
     Bytes, LAST_POSITION, LONGEST_REQUEST, Memory, bytes_of_u32, bytes_of_u64, split_u32, split_u64,

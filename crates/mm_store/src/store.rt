@@ -1,8 +1,7 @@
 //! A store of four slots.
 
 ghost use Rattle.std.specs.Prelude.{◌<◌, ◌≤◌, length};
-ghost use Rattle.mm_store.specs.StoreStanding.{StoreStanding};
-ghost use Rattle.mm_store.specs.Calls.{ReadsSlot, WritesSlot};
+ghost use Rattle.mm_store.specs.StoreStanding.{StoreStanding, ReadsSlot, WritesSlot};
 
 use crate::fault::StoreFault;
 use mm_bytes::Bytes;

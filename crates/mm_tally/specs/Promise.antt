@@ -2,7 +2,7 @@
 use Rattle.std.specs.Prelude.{◌≡◌, ℕ, ◌+◌, min, List, take, count_by}
 use Rattle.std.specs.Fmt.{decimal}
 use Rattle.std.specs.List.{AllByRecursion}
-use Rattle.mm_listing.specs.Tellings.{Telling}
+use Rattle.mm_listing.specs.Listing.{Telling}
 use Rattle.mm_tally.specs.Table.{is_mark}
 
 -- how many of the first so many requests are marks, as far as 255

@@ -5,8 +5,8 @@ use Rattle.std.proofs.Common.{sym, ap, ◌∙◌, add-one, arith}
 use Rattle.std.specs.Fmt.{decimal}
 use Rattle.std.proofs.lemmas.List.Sums.{sum_by-cons}
 use Rattle.mm_module.specs.Meaning.{outputs_from}
-use Rattle.mm_listing.specs.Tellings.{AreSaid, Telling}
-use Rattle.mm_listing.specs.TellingLaws.{none-some, some-same}
+use Rattle.mm_listing.specs.Listing.{AreSaid, Telling}
+use Rattle.mm_listing.specs.RequestLaws.{none-some, some-same}
 use Rattle.mm_tally.specs.Promise.{TellsMarks, marks_among}
 use Rattle.mm_tally.specs.Table.{count_after, is_mark, tally}
 

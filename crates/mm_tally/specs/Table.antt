@@ -2,7 +2,7 @@
 use Rattle.std.specs.Prelude.{ℕ, ◌+◌, ◌==◌, ◌&&◌, Bool, min, List, [], ◌∷◌, length, codes, if◌then◌else◌}
 use Rattle.std.specs.Fmt.{decimal}
 use Rattle.std.specs.Str.{bytes_eq}
-use Rattle.mm_module.specs.Bytes.{are_bytes}
+use Rattle.mm_module.specs.Batch.{are_bytes}
 use Rattle.mm_module.specs.Meaning.{Meaning}
 
 -- the request that counts one more

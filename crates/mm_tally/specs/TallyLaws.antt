@@ -3,10 +3,10 @@ use Rattle.std.specs.Prelude.{◌≡◌, ◌==◌, ◌+◌, ◌<◌, ℕ, Bool, 
 use Rattle.std.proofs.Common.{refl, arith}
 use Rattle.std.proofs.lemmas.Bool.Decides.{nat_tests}
 use Rattle.std.specs.Fmt.{decimal}
-use Rattle.mm_module.specs.Bytes.{is_byte, are_bytes}
+use Rattle.mm_module.specs.Batch.{is_byte, are_bytes}
 use Rattle.mm_module.specs.LineLaws.{and-true, All-are_bytes, is_unbroken-decimal, length-decimal}
 use Rattle.mm_module.specs.Meaning.{IsLawful}
-use Rattle.mm_module.specs.TableLaws.{IsTable, table_is_lawful}
+use Rattle.mm_module.specs.RunLaws.{IsTable, table_is_lawful}
 use Rattle.mm_tally.specs.Table.{count_after, count_in, is_mark, is_state, tally}
 
 -- a state has one byte

@@ -1,56 +1,68 @@
--- What a call tells that comes to this, and a checkpoint.
-use Rattle.std.proofs.Common.{◌≡◌, ◌∙◌, ◌+◌, ℕ, suc, length, length-append, zero-add, ap, arith, Bool, true, false, List, [], ◌∷◌, ◌++◌, refl, sym, subst, inl, inr}
+-- What a call tells that comes to this, and a checkpoint. With it: a checkpoint that the machine
+-- made on a platform is a whole checkpoint.
 use Rattle.std.specs.Prelude.{Some, Result, Ok, Err, IfOk}
+use Rattle.std.proofs.Common.{◌≡◌, ◌∙◌, ◌+◌, ℕ, suc, length, length-append, zero-add, ap, arith, Bool, true, false, List, [], ◌∷◌, ◌++◌}
+use Rattle.std.proofs.Common.{refl, sym, subst, inl, inr}
 use Rattle.mm_digest.specs.declared.variant.Variant.{Variant}
 use Rattle.mm_digest.specs.declared.variant.Variant.TheVariants.{Basic, Opt}
+use Rattle.mm_platform.specs.Standing.{Standing, Act, StepGoes}
 use Rattle.mm_platform.specs.declared.fault.StepFault.TheVariants.{Off}
-use Rattle.mm_platform.specs.Standing.{Standing}
-use Rattle.mm_platform.specs.Steps.{Act, StepGoes}
+use Rattle.mm_module.specs.Batch.{Batch, One}
+use Rattle.mm_module.specs.Meaning.{IsLawful, Meaning}
+use Rattle.mm_machine.specs.OpSteps.{OpEnds}
 use Rattle.mm_machine.specs.OpSteps as machine
 use Rattle.mm_machine.specs.declared.call.OpResult.{OpResult}
 use Rattle.mm_machine.specs.declared.call.OpResult.TheVariants as ended
 use Rattle.mm_machine.specs.declared.call.OpStage.{OpStage}
 use Rattle.mm_machine.specs.declared.call.OpStage.TheVariants.{Begun}
-use Rattle.mm_module.specs.Batch.{Batch, One}
-use Rattle.mm_module.specs.Meaning.{IsLawful, Meaning}
-use Rattle.mm_model.specs.Fit.{IsFit}
-use Rattle.mm_model.specs.Long.{is_long}
+use Rattle.mm_model.specs.Moves.{IsFit, is_long}
 use Rattle.mm_model.specs.declared.answer.BatchAnswer.{BatchAnswer}
 use Rattle.mm_model.specs.declared.refusal.Refusal.{Refusal}
 use Rattle.mm_model.specs.declared.refusal.Refusal.TheVariants.{Long, Memory}
-use Rattle.mm_call.specs.AskPromise.{AskPromise}
-use Rattle.mm_call.specs.Completeness.{IsComplete}
-use Rattle.mm_call.specs.Counts.{WritesBy}
-use Rattle.mm_call.specs.EndedCall.{result_of}
-use Rattle.mm_call.specs.Machine.{end_of_machine}
-use Rattle.mm_call.specs.UntouchedLaws.{same_untouched}
-use Rattle.mm_flight.proofs.Above.{commits_at}
-use Rattle.mm_opt.specs.ClosingOperation.{closing_operation, result_of_end}
+use Rattle.mm_call.specs.CallKind.{result_of, end_of_machine}
+use Rattle.mm_call.specs.CallPremises.{WritesBy}
+use Rattle.mm_call.specs.Checkpoints.{AskPromise, IsComplete}
+use Rattle.mm_call.specs.TellingLaws.{same_untouched}
+use Rattle.mm_opt.specs.CheckpointPromise.{CheckpointPromise}
+use Rattle.mm_opt.specs.Checkpoints.{ClosesSegment, closing_operation, result_of_end}
 use Rattle.mm_opt.specs.declared.segment.Checkpointed.{Checkpointed}
 use Rattle.mm_opt.specs.declared.segment.CheckpointRefusal.{CheckpointRefusal}
-use Rattle.mm_ask.specs.WholeAsk.{ask_call}
-use Rattle.mm_ask.specs.Operating.{ask_operation}
+use Rattle.mm_opt.proofs.Above.{checks_on, closes_whole, closing_blamed, closing_steps, leaves_still}
+use Rattle.mm_ask.specs.WholeAsk.{ask_call, ask_operation}
 use Rattle.mm_ask.proofs.Above.{asked_whole}
+use Rattle.mm_flight.proofs.Above.{commits_at}
+use Rattle.mm_told.specs.CallPath.{StepsComeTo, StepsReachEnd, AreMade, Host, IsHostOf, bare_standing, AreAsTold, StepsDiffer, TellsOutcome}
+use Rattle.mm_told.specs.CallPath.{IsMade, act_of}
 use Rattle.mm_told.specs.declared.outcome.StepsOutcome.{StepsOutcome}
 use Rattle.mm_told.specs.declared.outcome.StepsOutcome.TheVariants as outcome
-use Rattle.mm_told.specs.declared.step.MadeStep.{MadeStep}
 use Rattle.mm_told.specs.declared.step.HostStep.{HostStep}
+use Rattle.mm_told.specs.declared.step.MadeStep.{MadeStep}
 use Rattle.mm_told.specs.declared.told.CallProgress.{CallProgress}
 use Rattle.mm_told.specs.declared.told.CallProgress.TheVariants as came
-use Rattle.mm_told.specs.ToldAskPromise.{ToldBatchPromise, AskMakesNext, IsAskOnHost, IsWithinRoom, LacksOnHost, ask_protocol, first_standing, wants_memory}
+use Rattle.mm_told.specs.ToldAskPromise.{ToldBatchPromise, AskMakesNext, IsAskOnHost, IsWithinRoom, LacksOnHost, ask_protocol}
+use Rattle.mm_told.specs.ToldAskPromise.{first_standing, wants_memory, IsOneIn, closing_outcome, long_outcome, outcome_if_over}
+use Rattle.mm_told.specs.ToldAskPromise.{told_outcome}
 use Rattle.mm_told.specs.ToldCheckpointPromise.{IsCheckpointOnHost, ToldCheckpointPromise, checkpoint_protocol}
-use Rattle.mm_told.specs.ToldOutcomes.{IsOneIn, closing_outcome, long_outcome, outcome_if_over, told_outcome}
-use Rattle.mm_told.specs.CallPath.{StepsComeTo, StepsReachEnd}
-use Rattle.mm_told.specs.Host.{AreMade, Host, IsHostOf, bare_standing}
-use Rattle.mm_told.specs.CallProtocol.{AreAsTold, StepsDiffer, TellsOutcome}
-use Rattle.mm_told.specs.Steps.{IsMade, act_of}
-use Rattle.mm_told.proofs.Determining.{EndLacks, fits, next_or_over, one_next}
-use Rattle.mm_told.proofs.Missing.{goes_bare}
-use Rattle.mm_told.proofs.Playing.{breaks, finishes}
-use Rattle.mm_told.proofs.Reading.{closing_determined, determined, is_memory, never}
+use Rattle.mm_told.proofs.Playing.{goes_bare, breaks, finishes}
+use Rattle.mm_told.proofs.Reading.{EndLacks, fits, next_or_over, one_next, closing_determined, determined, is_memory, never}
 use Rattle.mm_told.proofs.Shortening.{few_asked, few_closing}
-use Rattle.mm_told.proofs.Shutting.{closed_in}
 use Rattle.mm_told.proofs.Sizing.{answer_small}
+
+-- A checkpoint that the machine made on a platform is a whole checkpoint.
+
+pub closed_in : (old new : Standing) (end : OpResult Checkpointed CheckpointRefusal) → OpEnds closing_operation Begun old new end
+    → CheckpointPromise old new (result_of_end end)
+closed_in old new end f =
+    let closes : ClosesSegment old new (result_of_end end) = closes_whole new end old f in
+    record {
+      closes = closes;
+      untouched = leaves_still old new (result_of_end end) closes;
+      faults = closing_blamed old new (result_of_end end) closes;
+      steps = closing_steps old new (result_of_end end) closes;
+      goes = checks_on old new (result_of_end end) closes;
+    }
+
+-- What a call tells that comes to this, and a checkpoint.
 
 -- too long a batch is refused before the first step
 

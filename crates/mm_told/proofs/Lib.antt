@@ -1,11 +1,6 @@
 pub mod Above
 mod Coming
-mod Determining
-mod Leading
-mod Missing
-mod Playing
 mod Reading
+mod Playing
 mod Shortening
-mod Shutting
 mod Sizing
-mod Standings

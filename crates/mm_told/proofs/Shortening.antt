@@ -5,11 +5,10 @@ use Rattle.std.specs.Result.{result_map_both}
 use Rattle.mm_digest.specs.declared.variant.Variant.{Variant}
 use Rattle.mm_digest.specs.declared.variant.Variant.TheVariants.{Basic, Opt}
 use Rattle.mm_platform.specs.declared.fault.StepFault.{StepFault}
-use Rattle.mm_platform.specs.Steps.{Act}
+use Rattle.mm_platform.specs.Standing.{Act}
 use Rattle.mm_seal.specs.declared.cell.Cell.{Cell}
 use Rattle.mm_machine.specs.Acts.{change_after}
-use Rattle.mm_machine.specs.OpMeaning.{OpMeaning}
-use Rattle.mm_machine.specs.OpSteps.{step_after_change, step_to}
+use Rattle.mm_machine.specs.OpSteps.{OpMeaning, step_after_change, step_to}
 use Rattle.mm_machine.specs.declared.call.OpStage.{OpStage}
 use Rattle.mm_machine.specs.declared.call.OpStage.TheVariants.{Begun, Seen, Changing}
 use Rattle.mm_machine.specs.declared.call.StepResult.{StepResult}
@@ -27,24 +26,20 @@ use Rattle.mm_seal.specs.declared.cell.CellFault.TheVariants.{Blank, Cell as Uns
 use Rattle.mm_seal.specs.declared.snapshot.PartsFault.TheVariants.{Form, Kind}
 use Rattle.mm_model.specs.declared.answer.BatchAnswer.{BatchAnswer}
 use Rattle.mm_model.specs.declared.refusal.Refusal.{Refusal}
-use Rattle.mm_call.specs.Refusals.{IsOrMemory}
-use Rattle.mm_call.specs.Order.{check_of_offer}
-use Rattle.mm_basic.specs.Answers.{finding_in, finding_from, committed_cell, answer_of}
+use Rattle.mm_call.specs.CallFinding.{IsOrMemory, check_of_offer}
+use Rattle.mm_basic.specs.Operation.{finding_in, finding_from, committed_cell, answer_of, basic_operation, SeesAtCell, verdict_of}
 use Rattle.mm_basic.specs.BasicSight.{BasicSight, NoCell, OtherCell, NoOffer, Both}
-use Rattle.mm_basic.specs.Operation.{basic_operation, SeesAtCell}
-use Rattle.mm_basic.specs.Order.{verdict_of}
-use Rattle.mm_opt.specs.Operation.{opt_operation}
-use Rattle.mm_opt.specs.ClosingOperation.{closing_operation, sight_of, write_finding}
+use Rattle.mm_opt.specs.AskPromise.{opt_operation}
+use Rattle.mm_opt.specs.Checkpoints.{closing_operation, sight_of, write_finding}
 use Rattle.mm_opt.specs.declared.segment.Checkpointed.{Checkpointed}
 use Rattle.mm_opt.specs.declared.segment.Checkpointed.TheVariants.{Done}
 use Rattle.mm_opt.specs.declared.segment.CheckpointRefusal.{CheckpointRefusal}
 use Rattle.mm_opt.specs.declared.segment.Segment.{Segment}
 use Rattle.mm_opt.specs.declared.segment.Segment.TheVariants.{Open, Shut}
-use Rattle.mm_ask.specs.Operating.{ask_operation}
+use Rattle.mm_ask.specs.WholeAsk.{ask_operation}
 use Rattle.mm_told.specs.declared.step.MadeStep.{MadeStep}
 use Rattle.mm_told.specs.declared.step.MadeStep.TheVariants as made
-use Rattle.mm_told.specs.CallPath.{MadeStepLeads, StepsReachStage, IsNextStep, step_by_sight, step_by_finding}
-use Rattle.mm_told.specs.Steps.{fault_of_answer}
+use Rattle.mm_told.specs.CallPath.{MadeStepLeads, StepsReachStage, IsNextStep, step_by_sight, step_by_finding, fault_of_answer}
 use Rattle.mm_told.specs.ToldAskPromise.{most_steps}
 
 -- how many steps a change makes, with those behind it

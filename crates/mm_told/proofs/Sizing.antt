@@ -8,7 +8,7 @@ use Rattle.mm_digest.specs.Messages.{extended_digest_of}
 use Rattle.mm_digest.specs.declared.variant.Variant.{Variant}
 use Rattle.mm_digest.specs.declared.variant.Variant.TheVariants.{Basic, Opt}
 use Rattle.mm_platform.specs.declared.fault.StepFault.{StepFault}
-use Rattle.mm_seal.specs.Body.{place_length}
+use Rattle.mm_seal.specs.Parts.{place_length}
 use Rattle.mm_seal.specs.Cell.{IsCell, ReadsCell}
 use Rattle.mm_seal.specs.Snapshot.{Content, IsContent, IsPlace, Snapshot, sealed_snapshot_of, snapshot_front, variant_of}
 use Rattle.mm_seal.specs.SnapshotLaws.{length-snapshot_front}
@@ -19,9 +19,7 @@ use Rattle.mm_seal.specs.declared.snapshot.PartsFault.{PartsFault}
 use Rattle.mm_seal.specs.declared.snapshot.PartsFault.TheVariants.{Form, Kind}
 use Rattle.mm_seal.specs.declared.snapshot.Place.{Place}
 use Rattle.mm_machine.specs.Acts.{change_after}
-use Rattle.mm_machine.specs.OpEnds.{answer_in}
-use Rattle.mm_machine.specs.OpMeaning.{OpMeaning}
-use Rattle.mm_machine.specs.OpSteps.{step_after_change, step_of_finding, step_to}
+use Rattle.mm_machine.specs.OpSteps.{answer_in, OpMeaning, step_after_change, step_of_finding, step_to}
 use Rattle.mm_machine.specs.declared.call.OpResult.{OpResult}
 use Rattle.mm_machine.specs.declared.call.OpResult.TheVariants as ended
 use Rattle.mm_machine.specs.declared.call.OpStage.{OpStage}
@@ -35,32 +33,24 @@ use Rattle.mm_machine.specs.declared.operation.ReadyChange.{ReadyChange}
 use Rattle.mm_machine.specs.declared.operation.Sight.{Sight}
 use Rattle.mm_machine.specs.declared.operation.Sight.TheVariants as sight
 use Rattle.mm_module.specs.Batch.{Batch, members_of, normal_batch, size_of}
-use Rattle.mm_module.specs.Meaning.{IsLawful, Meaning}
-use Rattle.mm_module.specs.MeaningWords.{state_from}
+use Rattle.mm_module.specs.Meaning.{IsLawful, Meaning, state_from}
 use Rattle.mm_module.specs.RunLaws.{state_from-is_spelled}
-use Rattle.mm_model.specs.ChainLaws.{length-link}
+use Rattle.mm_model.specs.ListLaws.{length-link}
 use Rattle.mm_model.specs.declared.answer.BatchAnswer.{BatchAnswer}
 use Rattle.mm_model.specs.declared.refusal.Refusal.{Refusal}
 use Rattle.mm_model.specs.declared.verdict.Verdict.{Verdict}
-use Rattle.mm_call.specs.Answers.{answer_at}
-use Rattle.mm_call.specs.EndedCall.{end_by_fault, result_of}
-use Rattle.mm_call.specs.Machine.{end_of_machine}
-use Rattle.mm_call.specs.Order.{check_of_offer}
-use Rattle.mm_call.specs.Refusals.{IsOrMemory, fault_of}
-use Rattle.mm_call.specs.WeighingLaws.{weighed_only}
-use Rattle.mm_basic.specs.Answers as basic
+use Rattle.mm_call.specs.CallFinding.{answer_at, check_of_offer, IsOrMemory, fault_of}
+use Rattle.mm_call.specs.CallKind.{end_by_fault, result_of, end_of_machine}
+use Rattle.mm_call.specs.OfferLaws.{weighed_only}
+use Rattle.mm_basic.specs.Operation as basic
 use Rattle.mm_basic.specs.BasicSight.{BasicSight, NoCell, OtherCell, NoOffer, Both}
-use Rattle.mm_basic.specs.Operation as in_basic
-use Rattle.mm_basic.specs.Order as basic_order
 use Rattle.mm_opt.specs.Answers as opt
-use Rattle.mm_opt.specs.CellSight.{cell_in, is_cell_of, own_cell}
-use Rattle.mm_opt.specs.Operation as in_opt
-use Rattle.mm_opt.specs.Order as opt_order
-use Rattle.mm_ask.specs.Operating.{ask_operation}
+use Rattle.mm_opt.specs.AskPromise.{cell_in, is_cell_of, own_cell}
+use Rattle.mm_opt.specs.AskPromise as in_opt
+use Rattle.mm_ask.specs.WholeAsk.{ask_operation}
 use Rattle.mm_told.specs.declared.step.MadeStep.{MadeStep}
 use Rattle.mm_told.specs.declared.step.MadeStep.TheVariants as made
-use Rattle.mm_told.specs.CallPath.{MadeStepLeads, StepsReachEnd, step_by_finding, step_by_sight}
-use Rattle.mm_told.specs.Steps.{fault_of_answer}
+use Rattle.mm_told.specs.CallPath.{MadeStepLeads, StepsReachEnd, step_by_finding, step_by_sight, fault_of_answer}
 
 -- what all answers have that may be found, by what all cells have that are seen
 module _ {A : Type 0} (P : A → Type 0) (Q : Cell → Type 0) where
@@ -189,12 +179,12 @@ module _ (meaning : Meaning) (b : Batch) where
     basic_small (NoOffer Form) = tt
     basic_small (NoOffer Kind) = tt
     basic_small (Both cell offered) =
-        from_has (check_of_offer meaning cell.key offered b (basic_order.verdict_of cell offered b))
+        from_has (check_of_offer meaning cell.key offered b (basic.verdict_of cell offered b))
         (basic.committed_cell cell offered.content b) (basic.answer_of meaning cell.key offered.content b)
-        (λ again e. accepted_small cell.key offered (basic_order.verdict_of cell offered b) _ again
-        (length-link (basic_order.summary_in offered.content.place) (normal_batch b)) e)
+        (λ again e. accepted_small cell.key offered (basic.verdict_of cell offered b) _ again
+        (length-link (basic.summary_in offered.content.place) (normal_batch b)) e)
 
-    basic_sees : (offer bytes : List ℕ) (seen : Result (Sight BatchAnswer) Refusal) → in_basic.SeesAtCell meaning offer b bytes seen
+    basic_sees : (offer bytes : List ℕ) (seen : Result (Sight BatchAnswer) Refusal) → basic.SeesAtCell meaning offer b bytes seen
         → SightHas Refusal IsSmall IsCell seen
     basic_sees offer bytes (Ok (sight.Found found)) s =
         or_has (basic.finding_in meaning s.seen b) (Ok found) (basic_small s.seen) s.found_is
@@ -245,11 +235,11 @@ module _ (meaning : Meaning) (b : Batch) where
     offer_small cell register is size (Err Form) = tt
     offer_small cell register is size (Err Kind) = tt
     offer_small cell register is size (Ok offered) =
-        opt_from (check_of_offer meaning cell.key offered b (opt_order.verdict_of cell register offered b)) cell
-        (opt_order.batch_value cell b) (opt.answer_of meaning cell register offered.content b)
-        (λ again e. accepted_small cell.key offered (opt_order.verdict_of cell register offered b) _ again (
+        opt_from (check_of_offer meaning cell.key offered b (opt.verdict_of cell register offered b)) cell
+        (opt.batch_value cell b) (opt.answer_of meaning cell register offered.content b)
+        (λ again e. accepted_small cell.key offered (opt.verdict_of cell register offered b) _ again (
           is.summary,
-          after_size again (opt.extension_at cell.flag register) (opt_order.batch_value cell b)
+          after_size again (opt.extension_at cell.flag register) (opt.batch_value cell b)
               (extension_size cell.flag register size),
         ) e)
 
@@ -262,7 +252,7 @@ module _ (meaning : Meaning) (b : Batch) where
         → length register ≡ 32 → in_opt.FindsQuietly meaning cell register offer b found → FindingHas Refusal IsSmall IsCell found
     opt_finds offer cell register found is size f =
         or_has (opt.finding_in meaning cell register f.finds.taken b) found
-        (unless_small (opt_order.has_lost_power cell register) (opt.finding_in_offer meaning cell register f.finds.taken b)
+        (unless_small (opt.has_lost_power cell register) (opt.finding_in_offer meaning cell register f.finds.taken b)
         (offer_small cell register is size f.finds.taken)) f.finds.found_is
 
     none_finds : (found : Result (OpFinding BatchAnswer) Refusal) (why : Refusal) → found ≡ Err why

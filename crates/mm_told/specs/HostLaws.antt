@@ -3,13 +3,11 @@ use Rattle.std.proofs.Common.{◌≡◌, ◌-◌, ◌^◌, true, [], refl, arith
 use Rattle.std.specs.Prelude.{List, ◌∷◌, Option, None, Some, Ok, Err}
 use Rattle.mm_platform.specs.declared.fault.StepFault.{StepFault}
 use Rattle.mm_platform.specs.declared.fault.StepFault.TheVariants.{Failed, Off}
-use Rattle.mm_platform.specs.Standing.{Standing}
-use Rattle.mm_platform.specs.Steps.{Act, ReadCell, WriteCell, ReadRegister, ResetRegister, ExtendRegister, DeviceStepEnds, StepGoes}
-use Rattle.mm_platform.specs.Steps.{items_beside, cell_after, items_after, writes_after}
+use Rattle.mm_platform.specs.Standing.{Standing, Act, ReadCell, WriteCell, ReadRegister, ResetRegister, ExtendRegister, DeviceStepEnds}
+use Rattle.mm_platform.specs.Standing.{StepGoes, items_beside, cell_after, items_after, writes_after}
 use Rattle.mm_told.specs.declared.step.MadeStep.{MadeStep}
 use Rattle.mm_told.specs.declared.step.MadeStep.TheVariants as made
-use Rattle.mm_told.specs.Steps.{ReadIsTrue, made_act, fault_of_answer}
-use Rattle.mm_told.specs.Host.{Host, AreMade, IsHostOf}
+use Rattle.mm_told.specs.CallPath.{ReadIsTrue, made_act, fault_of_answer, Host, AreMade, IsHostOf}
 
 -- no content is told, and the counts are at their greatest
 abbrev pub worn_standing : Standing

@@ -1,9 +1,4 @@
-pub mod Steps
-pub mod Host
-pub mod HostLaws
 pub mod CallPath
-pub mod CallProtocol
+pub mod HostLaws
 pub mod ToldAskPromise
 pub mod ToldCheckpointPromise
-pub mod CallsOnHosts
-pub mod ToldOutcomes

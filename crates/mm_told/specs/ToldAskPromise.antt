@@ -1,34 +1,33 @@
--- What a call promises whose steps a host makes.
-use Rattle.std.specs.Prelude.{◌≡◌, ◌≢◌, ◌+◌, ◌<◌, ◌≤◌, ◌⊎◌, ℕ, Bool, true, false, List, [], ◌++◌, length, Result, Ok, Err}
+-- What a call promises whose steps a host makes. With it: what a call tells, by what it comes to.
+use Rattle.std.specs.Prelude.{◌≡◌, ◌≢◌, ◌+◌, ◌<◌, ◌≤◌, ◌⊎◌, ℕ, Bool, true, false, List, [], ◌++◌, length, Result, Ok, Err, ◌∷◌, IfOk}
 use Rattle.mm_bytes.specs.Limits.{limit_of}
 use Rattle.mm_digest.specs.declared.variant.Variant.{Variant}
 use Rattle.mm_digest.specs.declared.variant.Variant.TheVariants.{Basic, Opt}
-use Rattle.mm_platform.specs.Standing.{Standing}
-use Rattle.mm_platform.specs.Steps.{Act}
+use Rattle.mm_platform.specs.Standing.{Standing, Act}
 use Rattle.mm_platform.specs.declared.fault.StepFault.TheVariants.{Off}
-use Rattle.mm_machine.specs.declared.call.OpResult.{OpResult}
-use Rattle.mm_machine.specs.declared.call.OpStage.TheVariants.{Begun}
 use Rattle.mm_module.specs.Batch.{Batch, One}
 use Rattle.mm_module.specs.Meaning.{Meaning}
-use Rattle.mm_model.specs.Long.{is_long}
+use Rattle.mm_machine.specs.declared.call.OpResult.{OpResult}
+use Rattle.mm_machine.specs.declared.call.OpStage.TheVariants.{Begun}
+use Rattle.mm_model.specs.Moves.{is_long}
 use Rattle.mm_model.specs.declared.answer.Answer.{Answer}
 use Rattle.mm_model.specs.declared.answer.BatchAnswer.{BatchAnswer}
 use Rattle.mm_model.specs.declared.refusal.Refusal.{Refusal}
 use Rattle.mm_model.specs.declared.refusal.Refusal.TheVariants.{Device, Long, Memory}
-use Rattle.mm_call.specs.AskPromise.{AskPromise}
-use Rattle.mm_call.specs.EndedCall.{result_of}
-use Rattle.mm_call.specs.Untouched.{batch_result_of}
-use Rattle.mm_call.specs.Machine.{end_of_machine}
-use Rattle.mm_ask.specs.WholeAsk.{ask_call}
-use Rattle.mm_ask.specs.Operating.{ask_operation}
+use Rattle.mm_call.specs.CallFinding.{batch_result_of}
+use Rattle.mm_call.specs.CallKind.{result_of, end_of_machine}
+use Rattle.mm_call.specs.Checkpoints.{AskPromise}
+use Rattle.mm_opt.specs.Checkpoints.{result_of_end}
+use Rattle.mm_opt.specs.declared.segment.Checkpointed.{Checkpointed}
+use Rattle.mm_opt.specs.declared.segment.CheckpointRefusal.{CheckpointRefusal}
+use Rattle.mm_ask.specs.WholeAsk.{ask_call, ask_operation}
+use Rattle.mm_told.specs.CallPath.{StepsReachEnd, IsNextStep, act_of, Host, bare_standing, CallProtocol, TellsOutcome, AreAsTold}
 use Rattle.mm_told.specs.declared.outcome.StepsOutcome.{StepsOutcome}
 use Rattle.mm_told.specs.declared.outcome.StepsOutcome.TheVariants as outcome
 use Rattle.mm_told.specs.declared.step.HostStep.{HostStep}
 use Rattle.mm_told.specs.declared.step.MadeStep.{MadeStep}
-use Rattle.mm_told.specs.CallPath.{StepsReachEnd, IsNextStep}
-use Rattle.mm_told.specs.Steps.{act_of}
-use Rattle.mm_told.specs.Host.{Host, bare_standing}
-use Rattle.mm_told.specs.CallProtocol.{CallProtocol, TellsOutcome, AreAsTold}
+use Rattle.mm_told.specs.declared.told.CallProgress.{CallProgress}
+use Rattle.mm_told.specs.declared.told.CallProgress.TheVariants as came
 
 -- where the host's platform stood before the first of the steps that were made
 abbrev pub first_standing : Host → List MadeStep → Standing
@@ -130,3 +129,38 @@ abbrev pub ToldAskPromise : Variant → Meaning → Host → List MadeStep → (
     → StepsOutcome (Result Answer Refusal) → Type 0
 ToldAskPromise variant meaning host steps offer request came =
     ToldBatchPromise variant meaning host steps offer (One request) (outcome_of_one came)
+
+-- What a call tells, by what it comes to.
+
+-- too long a batch is refused before the first step
+abbrev pub long_outcome : List MadeStep → StepsOutcome (Result BatchAnswer Refusal)
+long_outcome [] = outcome.Ended (Err Long)
+long_outcome (it ∷ more) = outcome.Differs
+
+-- an answer has one output
+abbrev pub IsOne : Result BatchAnswer Refusal → Type 0
+IsOne given = IfOk given (λ answer. length answer.outputs ≡ 1)
+
+abbrev pub IsOneIn : StepsOutcome (Result BatchAnswer Refusal) → Type 0
+IsOneIn (outcome.Ended given) = IsOne given
+IsOneIn _ = Unit {0}
+
+-- it was over before, by whether for want of memory
+abbrev pub outcome_if_over : Bool → StepsOutcome (Result BatchAnswer Refusal)
+outcome_if_over true = outcome.Memory
+outcome_if_over false = outcome.Differs
+
+-- what is told of a call; and of a checkpoint
+abbrev pub told_outcome : CallProgress BatchAnswer Refusal
+    → StepsOutcome (Result BatchAnswer Refusal)
+told_outcome (came.Next step) = outcome.Next step
+told_outcome (came.Over end) = outcome.Ended (result_of (end_of_machine end))
+told_outcome (came.Before end) = outcome_if_over (wants_memory (result_of (end_of_machine end)))
+told_outcome came.Elsewhere = outcome.Differs
+
+abbrev pub closing_outcome : CallProgress Checkpointed CheckpointRefusal
+    → StepsOutcome (Result Checkpointed CheckpointRefusal)
+closing_outcome (came.Next step) = outcome.Next step
+closing_outcome (came.Over end) = outcome.Ended (result_of_end end)
+closing_outcome (came.Before end) = outcome.Differs
+closing_outcome came.Elsewhere = outcome.Differs

@@ -1,22 +1,25 @@
--- What a checkpoint promises whose steps a host makes.
-use Rattle.std.specs.Prelude.{◌≡◌, ◌≢◌, ◌<◌, false, List, length, Result, Err}
+-- What a checkpoint promises whose steps a host makes. With it: what is told by the steps that were
+-- made is the call on each platform on which they were made.
+use Rattle.std.specs.Prelude.{◌≡◌, ◌≢◌, ◌<◌, false, List, length, Result, Err, ℕ}
+use Rattle.mm_digest.specs.declared.variant.Variant.{Variant}
 use Rattle.mm_platform.specs.declared.fault.StepFault.TheVariants.{Off}
+use Rattle.mm_module.specs.Batch.{Batch}
+use Rattle.mm_module.specs.Meaning.{IsLawful, Meaning}
 use Rattle.mm_machine.specs.declared.call.OpResult.{OpResult}
 use Rattle.mm_machine.specs.declared.call.OpStage.TheVariants.{Begun}
+use Rattle.mm_model.specs.declared.answer.BatchAnswer.{BatchAnswer}
+use Rattle.mm_model.specs.declared.refusal.Refusal.{Refusal}
 use Rattle.mm_opt.specs.CheckpointPromise.{CheckpointPromise}
-use Rattle.mm_opt.specs.ClosingOperation.{closing_operation, result_of_end}
+use Rattle.mm_opt.specs.Checkpoints.{closing_operation, result_of_end}
 use Rattle.mm_opt.specs.declared.segment.Checkpointed.{Checkpointed}
 use Rattle.mm_opt.specs.declared.segment.CheckpointRefusal.{CheckpointRefusal}
 use Rattle.mm_opt.specs.declared.segment.CheckpointRefusal.TheVariants.{Device}
+use Rattle.mm_told.specs.CallPath.{StepsReachEnd, IsNextStep, act_of, Host, bare_standing, CallProtocol, TellsOutcome, AreAsTold, IsHostOf}
 use Rattle.mm_told.specs.declared.outcome.StepsOutcome.{StepsOutcome}
 use Rattle.mm_told.specs.declared.outcome.StepsOutcome.TheVariants as outcome
 use Rattle.mm_told.specs.declared.step.HostStep.{HostStep}
 use Rattle.mm_told.specs.declared.step.MadeStep.{MadeStep}
-use Rattle.mm_told.specs.CallPath.{StepsReachEnd, IsNextStep}
-use Rattle.mm_told.specs.Steps.{act_of}
-use Rattle.mm_told.specs.Host.{Host, bare_standing}
-use Rattle.mm_told.specs.CallProtocol.{CallProtocol, TellsOutcome, AreAsTold}
-use Rattle.mm_told.specs.ToldAskPromise.{first_standing}
+use Rattle.mm_told.specs.ToldAskPromise.{first_standing, IsAskOnHost, ask_protocol}
 
 -- it ended with the last of these steps, and gives this
 pub record CheckpointEndsWith (steps : List MadeStep)
@@ -53,3 +56,20 @@ pub record ToldCheckpointPromise (host : Host) (steps : List MadeStep)
   pub fits : AreAsTold checkpoint_protocol steps → came ≢ outcome.Differs
   -- a checkpoint makes at most three steps
   pub few : (step : HostStep) → came ≡ outcome.Next step → length steps < 3
+
+-- What is told by the steps that were made is the call on each platform on which they were made.
+
+abbrev pub ToldCallsAreCalls : Type 0
+ToldCallsAreCalls =
+    (variant : Variant) (meaning : Meaning) (host : Host) (steps : List MadeStep)
+    (offer : List ℕ) (b : Batch) (came : StepsOutcome (Result BatchAnswer Refusal)) →
+    IsLawful meaning → IsHostOf steps host →
+    TellsOutcome (ask_protocol variant meaning offer b) (λ given. given) steps came →
+    IsAskOnHost variant meaning offer b host steps came
+
+abbrev pub ToldCheckpointsAreCheckpoints : Type 0
+ToldCheckpointsAreCheckpoints =
+    (host : Host) (steps : List MadeStep)
+    (came : StepsOutcome (Result Checkpointed CheckpointRefusal)) →
+    IsHostOf steps host → TellsOutcome checkpoint_protocol (λ given. given) steps came →
+    IsCheckpointOnHost host steps came

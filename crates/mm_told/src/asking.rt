@@ -1,11 +1,11 @@
 //! A call whose device steps a host makes.
 
 ghost use Rattle.std.specs.Prelude.{◌≡◌};
-ghost use Rattle.mm_call.specs.Untouched.{batch_result_of};
+ghost use Rattle.mm_call.specs.CallFinding.{batch_result_of};
 ghost use Rattle.mm_module.specs.Batches.{batch_of};
-ghost use Rattle.mm_told.specs.ToldAskPromise.{ToldAskPromise, ToldBatchPromise, outcome_of_one, wants_memory};
-ghost use Rattle.mm_told.specs.ToldOutcomes.{IsOne, IsOneIn, told_outcome, outcome_if_over, long_outcome};
-ghost use Rattle.mm_told.specs.Host.{Host, IsHostOf};
+ghost use Rattle.mm_told.specs.ToldAskPromise.{ToldAskPromise, ToldBatchPromise, outcome_of_one, wants_memory, IsOne, IsOneIn};
+ghost use Rattle.mm_told.specs.ToldAskPromise.{told_outcome, outcome_if_over, long_outcome};
+ghost use Rattle.mm_told.specs.CallPath.{Host, IsHostOf};
 
 use crate::outcome::StepsOutcome;
 use crate::step::MadeStep;

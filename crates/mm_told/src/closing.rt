@@ -1,11 +1,10 @@
 //! A checkpoint whose device steps a host makes.
 
 ghost use Rattle.mm_machine.specs.declared.call.OpStage.TheVariants.{Begun};
-ghost use Rattle.mm_opt.specs.ClosingOperation.{closing_operation};
+ghost use Rattle.mm_opt.specs.Checkpoints.{closing_operation};
 ghost use Rattle.mm_told.specs.ToldCheckpointPromise.{ToldCheckpointPromise};
-ghost use Rattle.mm_told.specs.CallPath.{StepsComeTo};
-ghost use Rattle.mm_told.specs.Host.{Host, IsHostOf};
-ghost use Rattle.mm_told.specs.ToldOutcomes.{closing_outcome};
+ghost use Rattle.mm_told.specs.CallPath.{StepsComeTo, Host, IsHostOf};
+ghost use Rattle.mm_told.specs.ToldAskPromise.{closing_outcome};
 ghost use Rattle.std.specs.Prelude.{◌≡◌};
 
 use crate::outcome::StepsOutcome;

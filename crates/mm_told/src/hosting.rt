@@ -3,10 +3,9 @@
 ghost use Rattle.std.specs.Prelude.{◌≡◌, ℕ, IfSome, length};
 ghost use Rattle.mm_platform.specs.Standing.{Standing};
 ghost use Rattle.mm_module.specs.Batch.{One};
-ghost use Rattle.mm_call.specs.Untouched.{batch_result_of};
+ghost use Rattle.mm_call.specs.CallFinding.{batch_result_of};
 ghost use Rattle.mm_basic.specs.AskPromise.{BasicAskPromise};
-ghost use Rattle.mm_told.specs.Host.{AreMade, bare_standing};
-ghost use Rattle.mm_told.specs.Steps.{IsMade};
+ghost use Rattle.mm_told.specs.CallPath.{AreMade, bare_standing, IsMade};
 
 use crate::asking::ask;
 use crate::making::make;

@@ -2,9 +2,8 @@
 
 ghost use Rattle.std.specs.Prelude.{◌≡◌, ℕ, List, Some, OnErr, IfOk};
 ghost use Rattle.std.specs.Result.{result_err};
-ghost use Rattle.mm_platform.specs.Steps.{StepGoes, ReadCell};
-ghost use Rattle.mm_told.specs.Host.{bare_standing};
-ghost use Rattle.mm_told.specs.Steps.{act_of, made_act, IsMade};
+ghost use Rattle.mm_platform.specs.Standing.{StepGoes, ReadCell};
+ghost use Rattle.mm_told.specs.CallPath.{bare_standing, act_of, made_act, IsMade};
 
 use crate::step::{HostStep, MadeStep};
 use mm_bytes::{CELL_LENGTH, Memory};
@@ -12,7 +11,7 @@ use mm_digest::Digest;
 use mm_platform::{Platform, StepFault};
 
 /// Makes a step, and gives it with what the device answered. After want of memory nothing was done.
-#[tactic(auto, using(crate::proofs::Missing::made_bare))]
+#[tactic(auto, using(crate::proofs::Playing::made_bare))]
 pub fn make<P: Platform>(platform: &mut P, step: &HostStep) -> Result<MadeStep, Memory>
     ensures act { IfOk result (λ it. made_act it ≡ act_of step.now) }
     ensures made { IfOk result (λ it.
@@ -44,7 +43,7 @@ fn read_cell<P: Platform>(platform: &mut P) -> Result<[u8; CELL_LENGTH], StepFau
 }
 
 // Makes room for an extension, and then the extension.
-#[tactic(auto, using(crate::proofs::Missing::made_bare))]
+#[tactic(auto, using(crate::proofs::Playing::made_bare))]
 fn extend<P: Platform>(platform: &mut P, value: &Digest) -> Result<MadeStep, Memory>
     ensures act { IfOk result (λ it. made_act it ≡ act_of (HostStep.ExtendRegister value.now)) }
     ensures made { IfOk result (λ it.

@@ -1,8 +1,8 @@
 //! Device steps that a host makes, and what its devices answered.
 
 ghost use Rattle.std.specs.Prelude.{◌≡◌, ◌↔◌, IsTrue};
-ghost use Rattle.mm_platform.specs.Steps.{WriteCell, ExtendRegister};
-ghost use Rattle.mm_told.specs.Steps.{act_of, made_act};
+ghost use Rattle.mm_platform.specs.Standing.{WriteCell, ExtendRegister};
+ghost use Rattle.mm_told.specs.CallPath.{act_of, made_act};
 
 use mm_bytes::CELL_LENGTH;
 use mm_digest::Digest;

@@ -6,8 +6,8 @@ ghost use Rattle.mm_machine.specs.Acts.{act_in, change_after};
 ghost use Rattle.mm_machine.specs.OpSteps as machine;
 ghost use Rattle.mm_machine.specs.OpSteps.{position_if_last, step_of_finding, step_to};
 ghost use Rattle.mm_machine.specs.declared.call.OpStage.TheVariants.{Begun, Seen, Changing};
-ghost use Rattle.mm_told.specs.CallPath.{StepsComeTo, StepHasTarget, StepsWeighRegister, progress_at_end, step_by_sight, step_by_finding, target_of_step};
-ghost use Rattle.mm_told.specs.Steps.{act_of, fault_of_answer};
+ghost use Rattle.mm_told.specs.CallPath.{StepsComeTo, StepHasTarget, StepsWeighRegister, progress_at_end, step_by_sight, step_by_finding};
+ghost use Rattle.mm_told.specs.CallPath.{target_of_step, act_of, fault_of_answer};
 
 use crate::step::{HostStep, MadeStep, is_of};
 use mm_digest::Digest;

@@ -1,5 +1,3 @@
-mod Faultless
 mod Moving
 mod Reading
 mod Sizing
-mod Telling

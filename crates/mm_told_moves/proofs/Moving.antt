@@ -1,29 +1,34 @@
--- A move that was told by the steps that were made is the move over the host's platform.
-use Rattle.std.proofs.Common.{◌≡◌, ◌∙◌, ℕ, suc, ◌+◌, ◌<◌, true, false, List, [], ◌∷◌, ◌++◌, length, length-append, zero-add, refl, sym, ap, subst, inl, inr, arith}
-use Rattle.std.specs.Prelude.{Option, None, Some, Result, Ok, Err}
+-- A move that was told by the steps that were made is the move over the host's platform. With it:
+-- an invitation hands on no device's fault but its own steps'.
+use Rattle.std.specs.Prelude.{Option, None, Some, Result, Ok, Err, not, if◌then◌else◌}
+use Rattle.std.proofs.Common.{◌≡◌, ◌∙◌, ℕ, suc, ◌+◌, ◌<◌, true, false, List, [], ◌∷◌, ◌++◌, length, length-append, zero-add, refl, sym, ap}
+use Rattle.std.proofs.Common.{subst, inl, inr, arith, Bool}
 use Rattle.mm_bytes.specs.Limits.{cell_length}
-use Rattle.mm_platform.specs.Standing.{Standing}
-use Rattle.mm_platform.specs.Steps.{Act, ReadCell, StepGoes, WriteCell}
+use Rattle.mm_seal.specs.declared.cell.CellFault.{CellFault}
+use Rattle.mm_seal.specs.declared.cell.CellFault.TheVariants.{Blank, Cell as Unspelled}
+use Rattle.mm_platform.specs.Standing.{Standing, Act, ReadCell, StepGoes, WriteCell}
 use Rattle.mm_platform.specs.declared.fault.StepFault.{StepFault}
 use Rattle.mm_platform.specs.declared.fault.StepFault.TheVariants.{Off}
 use Rattle.mm_model.specs.declared.refusal.Refusal.TheVariants.{Device, Memory}
-use Rattle.mm_move.specs.Moves.{MakesMoveStep, MoveGoesOn, MovePromise}
-use Rattle.mm_move.specs.Refusals.{IsOrNoMemory, move_fault_in}
+use Rattle.mm_move.specs.Cells.{MakesMoveStep, MoveGoesOn, MovePromise, IsOrNoMemory, move_fault_in}
+use Rattle.mm_move.specs.Orders.{invitation_in, is_same_waiting}
+use Rattle.mm_move.specs.declared.cell.MovedCell.{MovedCell}
+use Rattle.mm_move.specs.declared.cell.MovedCell.TheVariants.{Live, Waiting as Waits, Retired as Left}
+use Rattle.mm_move.specs.declared.cell.WaitingCell.{WaitingCell}
+use Rattle.mm_move.specs.declared.inviting.Invited.{Invited}
 use Rattle.mm_move.specs.declared.ready.ReadyMove.{ReadyMove}
 use Rattle.mm_move.specs.declared.refusal.MoveRefusal.{MoveRefusal}
 use Rattle.mm_move.specs.declared.refusal.MoveRefusal.TheVariants.{Core}
 use Rattle.mm_move.proofs.Above.{keeps_failed, keeps_on, no_fault_or}
-use Rattle.mm_told.proofs.Above.{front_made, goes_bare}
-use Rattle.mm_told.specs.CallProtocol.{AreAsTold, StepsDiffer, TellsOutcome}
-use Rattle.mm_told.specs.Host.{AreMade, Host, IsHostOf, bare_standing}
-use Rattle.mm_told.specs.Steps.{act_of, fault_of_answer, made_act}
+use Rattle.mm_told.specs.CallPath.{AreAsTold, StepsDiffer, TellsOutcome, AreMade, Host, IsHostOf, bare_standing, act_of, fault_of_answer}
+use Rattle.mm_told.specs.CallPath.{made_act}
 use Rattle.mm_told.specs.declared.outcome.StepsOutcome.{StepsOutcome}
 use Rattle.mm_told.specs.declared.outcome.StepsOutcome.TheVariants as outcome
 use Rattle.mm_told.specs.declared.step.MadeStep.{MadeStep}
 use Rattle.mm_told.specs.declared.step.MadeStep.TheVariants as made
-use Rattle.mm_told_moves.specs.Findings.{wants_memory}
-use Rattle.mm_told_moves.specs.MoveProtocol.{FindingEndsWith, FindingMakesNext, MoveEndsWith, MoveMakesNext, ReadyEndsWith, move_protocol}
-use Rattle.mm_told_moves.specs.ToldMovePromise.{IsMoveOnHost, MoveLacksOnHost, ToldMovePromise}
+use Rattle.mm_told.proofs.Above.{front_made, goes_bare}
+use Rattle.mm_told_moves.specs.ToldMovePromise.{wants_memory, FindingEndsWith, FindingMakesNext, MoveEndsWith, MoveMakesNext, ReadyEndsWith}
+use Rattle.mm_told_moves.specs.ToldMovePromise.{move_protocol, IsMoveOnHost, MoveLacksOnHost, ToldMovePromise}
 
 abbrev IsCellOf : Standing → List ℕ → Type 0
 IsCellOf old bytes = (cell : List ℕ) → old.cell ≡ Some cell → bytes ≡ cell
@@ -258,3 +263,17 @@ module _ {A : Type 0} (finds : List ℕ → Result (ReadyMove A) MoveRefusal) (f
     fits = λ same differs. absurd (cc);
     few = λ step next. absurd (cc);
   }
+
+-- An invitation hands on no device's fault but its own steps'.
+
+no_fault_if : (test : Bool) (refused rest : Result (ReadyMove Invited) MoveRefusal) → move_fault_in refused ≡ None
+    → move_fault_in rest ≡ None → move_fault_in (if test then refused else rest) ≡ None
+no_fault_if true refused rest h k = h
+no_fault_if false refused rest h k = k
+
+pub invites_no_fault : (next : WaitingCell) (read : Result MovedCell CellFault) → move_fault_in (invitation_in next read) ≡ None
+invites_no_fault next (Ok (Waits cell)) = no_fault_if (not (is_same_waiting cell next)) _ _ refl refl
+invites_no_fault next (Ok (Live cell)) = refl
+invites_no_fault next (Ok (Left cell)) = refl
+invites_no_fault next (Err Blank) = refl
+invites_no_fault next (Err Unspelled) = refl

@@ -1,17 +1,14 @@
 -- What a move found over a platform in memory is what it finds in the cell's bytes.
 use Rattle.std.proofs.Common.{◌≡◌, ◌∙◌, ℕ, true, false, List, refl, sym, ap, subst}
 use Rattle.std.specs.Prelude.{Option, None, Some, Result, Ok, Err, ◌==◌, Bool, if◌then◌else◌}
-use Rattle.mm_bytes.specs.Faults.{next_count}
+use Rattle.mm_bytes.specs.Limits.{next_count}
 use Rattle.mm_platform.specs.declared.fault.StepFault.{StepFault}
 use Rattle.mm_platform.specs.Memory.{new_platform}
-use Rattle.mm_platform.specs.PlannedSteps.{quiet_plan}
-use Rattle.mm_platform.specs.Standing.{Standing, plan_after}
-use Rattle.mm_platform.specs.Steps.{ReadCell, StepGoes, WriteCell, cell_after, fault_by_plan}
-use Rattle.mm_move.specs.Moves.{AreMoveSteps, EndsAfterRead, MakesMoveStep, MoveGoesOn, move_answer}
-use Rattle.mm_move.specs.Refusals.{IsOrNoMemory}
+use Rattle.mm_platform.specs.Standing.{quiet_plan, Standing, plan_after, ReadCell, StepGoes, WriteCell, cell_after, fault_by_plan}
+use Rattle.mm_move.specs.Cells.{AreMoveSteps, EndsAfterRead, MakesMoveStep, MoveGoesOn, move_answer, IsOrNoMemory}
 use Rattle.mm_move.specs.declared.ready.ReadyMove.{ReadyMove}
 use Rattle.mm_move.specs.declared.refusal.MoveRefusal.{MoveRefusal}
-use Rattle.mm_told_moves.specs.Findings.{IsFoundMove, found_on, written_cell}
+use Rattle.mm_told_moves.specs.ToldMovePromise.{IsFoundMove, found_on, written_cell}
 
 -- no step fails by a quiet plan
 no_fault : (is_on : Bool) (at : ℕ) (fault : Option StepFault) → is_on ≡ true

@@ -1,29 +1,35 @@
--- How long a ticket and a snapshot are that a move gives.
-use Rattle.std.proofs.Common.{◌≡◌, ◌∙◌, ℕ, ◌+◌, ◌-◌, ◌≤◌, Bool, true, false, ◌||◌, List, [], ◌∷◌, length, length-append, length-drop, length-take, drop, refl, ap, subst, inl, inr, arith}
-use Rattle.std.specs.Prelude.{◌==◌, Option, None, Some, Result, Ok, Err, not, if◌then◌else◌, slice_index}
+-- How long a ticket and a snapshot are that a move gives. With it: what a move tells, by what was
+-- found.
+use Rattle.std.specs.Prelude.{◌==◌, Option, None, Some, Result, Ok, Err, not, if◌then◌else◌, slice_index, ◌≢◌}
 use Rattle.std.specs.Str.{bytes_eq}
-use Rattle.mm_bytes.specs.FieldLaws.{length-eight_bytes, length-four_bytes}
+use Rattle.std.proofs.Common.{◌≡◌, ◌∙◌, ℕ, ◌+◌, ◌-◌, ◌≤◌, Bool, true, false, ◌||◌, List, [], ◌∷◌, length, length-append, length-drop}
+use Rattle.std.proofs.Common.{length-take, drop, refl, ap, subst, inl, inr, arith, ◌++◌, take, get_or}
+use Rattle.std.proofs.lemmas.List.{take_all}
+use Rattle.mm_bytes.specs.DecimalLaws.{length-eight_bytes, length-four_bytes}
 use Rattle.mm_bytes.specs.Limits.{cell_length, limit_of}
 use Rattle.mm_digest.specs.LengthLaws.{length-hmac_of}
 use Rattle.mm_digest.specs.declared.digest.Digest.{Digest}
 use Rattle.mm_digest.specs.declared.variant.Variant.{Variant}
 use Rattle.mm_digest.specs.declared.variant.Variant.TheVariants as variants
-use Rattle.mm_module.specs.Meaning.{Meaning}
 use Rattle.mm_seal.specs.Cell.{blank_cell}
+use Rattle.mm_seal.specs.FieldLaws.{spells_read}
 use Rattle.mm_seal.specs.Parts.{parts_of}
-use Rattle.mm_seal.specs.ReadingLaws.{spells_read}
 use Rattle.mm_seal.specs.Snapshot.{Content, IsContent, Snapshot, sealed_snapshot_of, tag_of}
 use Rattle.mm_seal.specs.declared.cell.Cell.{Cell}
 use Rattle.mm_seal.specs.declared.cell.CellFault.{CellFault}
 use Rattle.mm_seal.specs.declared.cell.CellFault.TheVariants.{Blank, Cell as Unspelled}
 use Rattle.mm_seal.specs.declared.snapshot.PartsFault.{PartsFault}
 use Rattle.mm_seal.specs.declared.snapshot.PartsFault.TheVariants.{Form, Kind}
-use Rattle.mm_move.proofs.Above.{tickets_are_read}
-use Rattle.mm_move.specs.Cells.{live_cell_in, moved_cell_in, moved_cell_of, is_spelled_by, retired_cell_in, retired_spelling, waiting_cell_in}
-use Rattle.mm_move.specs.Fields.{part}
-use Rattle.mm_move.specs.Orders.{acceptance_again_by, acceptance_by, acceptance_in, is_barred, is_other, is_place_at, offer_by, retired_cell_from, retirement_by, retirement_in, right_offer, right_ticket, ticket_by, ticket_for}
-use Rattle.mm_move.specs.Refusals.{IsOrNoMemory}
-use Rattle.mm_move.specs.Tickets.{TaggedTicket, TicketContent, place_at, sealed_ticket, signed_bytes, summary_in, ticket_front, ticket_of, ticket_tag}
+use Rattle.mm_platform.specs.Standing.{ReadCell, WriteCell}
+use Rattle.mm_platform.specs.declared.fault.StepFault.{StepFault}
+use Rattle.mm_module.specs.Meaning.{Meaning}
+use Rattle.mm_model.specs.declared.refusal.Refusal.TheVariants.{Device}
+use Rattle.mm_move.specs.Cells.{live_cell_in, moved_cell_in, moved_cell_of, is_spelled_by, retired_cell_in, retired_spelling}
+use Rattle.mm_move.specs.Cells.{waiting_cell_in, part, IsOrNoMemory, move_answer}
+use Rattle.mm_move.specs.Orders.{acceptance_again_by, acceptance_by, acceptance_in, is_barred, is_other, is_place_at, offer_by}
+use Rattle.mm_move.specs.Orders.{retired_cell_from, retirement_by, retirement_in, right_offer, right_ticket, ticket_by, ticket_for}
+use Rattle.mm_move.specs.Tickets.{TaggedTicket, TicketContent, place_at, sealed_ticket, signed_bytes, summary_in, ticket_front, ticket_of}
+use Rattle.mm_move.specs.Tickets.{ticket_tag}
 use Rattle.mm_move.specs.declared.accepting.Accepted.{Accepted}
 use Rattle.mm_move.specs.declared.cell.MovedCell.{MovedCell}
 use Rattle.mm_move.specs.declared.cell.MovedCell.TheVariants.{Live, Waiting as Waits, Retired as Left}
@@ -31,16 +37,18 @@ use Rattle.mm_move.specs.declared.cell.WaitingCell.{WaitingCell}
 use Rattle.mm_move.specs.declared.link.Link.{Link}
 use Rattle.mm_move.specs.declared.ready.ReadyMove.{ReadyMove}
 use Rattle.mm_move.specs.declared.refusal.MoveRefusal.{MoveRefusal}
-use Rattle.mm_told.proofs.Above.{sealed_most}
+use Rattle.mm_move.specs.declared.refusal.MoveRefusal.TheVariants.{Core}
+use Rattle.mm_move.proofs.Above.{tickets_are_read}
+use Rattle.mm_told.specs.CallPath.{TellsOutcome, fault_of_answer, made_act}
 use Rattle.mm_told.specs.declared.outcome.StepsOutcome.{StepsOutcome}
 use Rattle.mm_told.specs.declared.outcome.StepsOutcome.TheVariants as outcome
 use Rattle.mm_told.specs.declared.step.MadeStep.{MadeStep}
 use Rattle.mm_told.specs.declared.step.MadeStep.TheVariants as made
-use Rattle.mm_told.specs.CallProtocol.{TellsOutcome}
-use Rattle.mm_told_moves.specs.MoveProtocol.{FindingEndsWith, MoveEndsWith, ReadyEndsWith, move_protocol}
-use Rattle.mm_told_moves.specs.ToldMovePromise.{IsSnapshotWithin, IsTicketWithin, acceptance_finds, retirement_finds}
-use Rattle.mm_move.specs.Moves.{move_answer}
-use Rattle.mm_platform.specs.declared.fault.StepFault.{StepFault}
+use Rattle.mm_told.proofs.Above.{sealed_most}
+use Rattle.mm_told_moves.specs.declared.finding.FoundMove.{FoundMove}
+use Rattle.mm_told_moves.specs.ToldMovePromise.{FindingEndsWith, MoveEndsWith, ReadyEndsWith, move_protocol, IsSnapshotWithin}
+use Rattle.mm_told_moves.specs.ToldMovePromise.{IsTicketWithin, acceptance_finds, retirement_finds, IsFoundMove, IsFoundOutcome}
+use Rattle.mm_told_moves.specs.ToldMovePromise.{IsReadyOutcome, IsWriteOutcome, ended_outcome, outcome_if_over, wants_memory}
 
 -- what all have that may be found, where nothing refuses it
 module _ {A : Type 0} (P : A → Type 0) where
@@ -268,3 +276,122 @@ module _ (meaning : Meaning) where
   snapshot_within variant link ticket steps (outcome.Next step) t = tt
   snapshot_within variant link ticket steps outcome.Differs t = tt
   snapshot_within variant link ticket steps outcome.Memory t = tt
+
+-- What a move tells, by what was found.
+
+module _ {A : Type 0} (finds : List ℕ → Result (ReadyMove A) MoveRefusal) where
+  abbrev Tells : List MadeStep → StepsOutcome (Result A MoveRefusal) → Type 0
+  Tells steps came = TellsOutcome (move_protocol finds) (λ given. given) steps came
+
+  -- it ended with the front ones, and more were made
+  over : (front : List MadeStep) (it : MadeStep) (rest : List MadeStep) (given : Result A MoveRefusal) (lacking : Bool)
+      → (move_protocol finds).gives front given → wants_memory given ≡ lacking → Tells (front ++ it ∷ rest) (outcome_if_over lacking)
+  over front it rest given false gives lacks = record {
+    front = front;
+    it = it;
+    rest = rest;
+    are = refl;
+    other = inr (record { given = given; gives = gives; lacks = lacks });
+  }
+  over front it rest given true gives lacks =
+      record { front = front; rest = it ∷ rest; are = refl; over = record { given = given; gives = gives; lacks = lacks } }
+
+  -- the first step failed
+  pub read_failed : (fault : StepFault) (more : List MadeStep)
+      → Tells (made.ReadCell (Err fault) ∷ more) (ended_outcome (Err (Core (Device fault))) more)
+  read_failed fault [] = refl
+  read_failed fault (it ∷ rest) = over (made.ReadCell (Err fault) ∷ []) it rest (Err (Core (Device fault))) false refl refl
+
+  -- the first step was another
+  read_other : (it : MadeStep) (more : List MadeStep) → made_act it ≢ ReadCell → Tells (it ∷ more) outcome.Differs
+  read_other it more other = record {
+    front = [];
+    it = it;
+    rest = more;
+    are = refl;
+    other = inl (record { act = ReadCell; next = refl; other = other });
+  }
+
+  pub read_none : (first : MadeStep) (more : List MadeStep)
+      → ((answer : Result (List ℕ) StepFault) → first ≡ made.ReadCell answer → ⊥) → Tells (first ∷ more) outcome.Differs
+  read_none (made.ReadCell answer) more none = absurd (none answer refl)
+  read_none (made.WriteCell bytes answer) more none = read_other (made.WriteCell bytes answer) more (λ e. absurd (cc))
+  read_none (made.ReadRegister answer) more none = read_other (made.ReadRegister answer) more (λ e. absurd (cc))
+  read_none (made.ResetRegister answer) more none = read_other (made.ResetRegister answer) more (λ e. absurd (cc))
+  read_none (made.ExtendRegister value answer) more none = read_other (made.ExtendRegister value answer) more (λ e. absurd (cc))
+
+  module _ (bytes : List ℕ) (size : length bytes ≡ cell_length) where
+    abbrev Read : MadeStep
+    Read = made.ReadCell (Ok bytes)
+
+    -- it ends with what was read
+    ends_at_read : (found : Result (ReadyMove A) MoveRefusal) (given : Result A MoveRefusal) (more : List MadeStep)
+        → IsOrNoMemory (finds bytes) found → FindingEndsWith found [] given → Tells (Read ∷ more) (ended_outcome given more)
+    ends_at_read found given [] f e = record { size = size; found = found; found_is = f; ends = e }
+    ends_at_read found given (it ∷ rest) f e =
+        over (Read ∷ []) it rest given (wants_memory given) (record { size = size; found = found; found_is = f; ends = e }) refl
+
+    -- it ends with the cell's write
+    ends_at_write : (next : List ℕ) (answer : A) (it : MadeStep) (more : List MadeStep)
+        → IsOrNoMemory (finds bytes) (Ok (record { next = Some next; answer = answer })) → made_act it ≡ WriteCell next
+        → Tells (Read ∷ it ∷ more) (ended_outcome (move_answer answer (fault_of_answer it)) more)
+    ends_at_write next answer it [] f same = record {
+      size = size;
+      found = Ok (record { next = Some next; answer = answer });
+      found_is = f;
+      ends = (same, refl);
+    }
+    ends_at_write next answer it (one ∷ rest) f same =
+        over (Read ∷ it ∷ []) one rest (move_answer answer (fault_of_answer it))
+        (wants_memory (move_answer answer (fault_of_answer it))) (record {
+          size = size;
+          found = Ok (record { next = Some next; answer = answer });
+          found_is = f;
+          ends = (same, refl);
+        }) refl
+
+    writes : (next : List ℕ) (answer : A) (more : List MadeStep) (came : StepsOutcome (Result A MoveRefusal))
+        → IsOrNoMemory (finds bytes) (Ok (record { next = Some next; answer = answer })) → IsWriteOutcome next answer more came
+        → Tells (Read ∷ more) came
+    writes next answer [] came f c = rw c (record {
+      size = size;
+      found = Ok (record { next = Some next; answer = answer });
+      found_is = f;
+      makes = record { next = next; next_is = refl; act_is = refl };
+    })
+    writes next answer (it ∷ more) came f (inl c) = rw c.1 (record {
+      front = Read ∷ [];
+      it = it;
+      rest = more;
+      are = refl;
+      other = inl (record {
+        act = WriteCell next;
+        next = record {
+          size = size;
+          found = Ok (record { next = Some next; answer = answer });
+          found_is = f;
+          makes = record { next = next; next_is = refl; act_is = refl };
+        };
+        other = c.0;
+      });
+    })
+    writes next answer (it ∷ more) came f (inr c) = rw c.1 (ends_at_write next answer it more f c.0)
+
+    by_next : (next : Option (List ℕ)) (answer : A) (more : List MadeStep) (came : StepsOutcome (Result A MoveRefusal))
+        → IsOrNoMemory (finds bytes) (Ok (record { next = next; answer = answer })) → IsReadyOutcome next answer more came
+        → Tells (Read ∷ more) came
+    by_next None answer more came f c = rw c (ends_at_read (Ok (record { next = None; answer = answer })) (Ok answer) more f refl)
+    by_next (Some next) answer more came f c = writes next answer more came f c
+
+    pub read_found : (found : Result (FoundMove A) MoveRefusal) (more : List MadeStep) (came : StepsOutcome (Result A MoveRefusal))
+        → IsFoundMove (finds bytes) found → IsFoundOutcome found more came → Tells (Read ∷ more) came
+    read_found (Ok found) more came f c = by_next found.next found.answer more came f c
+    read_found (Err why) more came f c = rw c (ends_at_read (Err why) (Err why) more f refl)
+
+  -- the same, as a slice has the steps
+  pub slice_tells : (steps more : List MadeStep) (default : MadeStep) (n : ℕ) (came : StepsOutcome (Result A MoveRefusal))
+      → 1 ≤ length steps → n ≡ length steps - 1 → more ≡ take n (drop 1 steps) → Tells (get_or steps 0 default ∷ more) came
+      → Tells steps came
+  slice_tells [] more default n came some counts e t = absurd (omega (arith, some))
+  slice_tells (it ∷ rest) more default n came some counts e t =
+      subst (λ (xs : List MadeStep). Tells (it ∷ xs) came) (e ∙ take_all n rest (omega (arith, counts))) t

@@ -1,4 +1,1 @@
-pub mod Findings
-pub mod MoveProtocol
 pub mod ToldMovePromise
-pub mod MovesOnHosts

@@ -3,7 +3,7 @@
 ghost use Rattle.std.specs.Prelude.{◌≡◌, List, ℕ, Result};
 ghost use Rattle.mm_move.specs.declared.ready.ReadyMove.{ReadyMove};
 ghost use Rattle.mm_move.specs.declared.refusal.MoveRefusal.{MoveRefusal};
-ghost use Rattle.mm_told_moves.specs.Findings.{IsFoundMove, found_on, written_cell};
+ghost use Rattle.mm_told_moves.specs.ToldMovePromise.{IsFoundMove, found_on, written_cell};
 
 use mm_bytes::CELL_LENGTH;
 use mm_move::MoveRefusal;

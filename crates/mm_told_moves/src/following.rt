@@ -2,12 +2,11 @@
 
 ghost use Rattle.std.specs.Prelude.{◌≡◌, ◌↔◌, ◌∷◌, IsTrue, Ok};
 ghost use Rattle.std.specs.Result.{result_err};
-ghost use Rattle.mm_platform.specs.Steps.{WriteCell};
-ghost use Rattle.mm_move.specs.Moves.{move_answer};
-ghost use Rattle.mm_told.specs.CallProtocol.{TellsOutcome};
-ghost use Rattle.mm_told.specs.Steps.{fault_of_answer, made_act};
-ghost use Rattle.mm_told_moves.specs.Findings.{IsFoundOutcome, ended_outcome, IsReadyOutcome, IsWriteOutcome, wants_memory};
-ghost use Rattle.mm_told_moves.specs.MoveProtocol.{move_protocol};
+ghost use Rattle.mm_platform.specs.Standing.{WriteCell};
+ghost use Rattle.mm_move.specs.Cells.{move_answer};
+ghost use Rattle.mm_told.specs.CallPath.{TellsOutcome, fault_of_answer, made_act};
+ghost use Rattle.mm_told_moves.specs.ToldMovePromise.{IsFoundOutcome, ended_outcome, IsReadyOutcome, IsWriteOutcome, wants_memory};
+ghost use Rattle.mm_told_moves.specs.ToldMovePromise.{move_protocol};
 
 use crate::finding::{FoundMove, HostMove};
 use mm_bytes::CELL_LENGTH;

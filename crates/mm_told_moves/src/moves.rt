@@ -1,6 +1,6 @@
 //! The three moves, whose device steps a host makes.
 
-ghost use Rattle.mm_told.specs.Host.{Host, IsHostOf};
+ghost use Rattle.mm_told.specs.CallPath.{Host, IsHostOf};
 ghost use Rattle.mm_told_moves.specs.ToldMovePromise.{IsSnapshotWithin, IsTicketWithin, ToldMovePromise, acceptance_finds, invitation_finds, retirement_finds};
 
 use crate::finding::{FoundMove, HostMove, found};

@@ -1,4 +1,17 @@
--- What happens on a side is what happens on both.
+-- What happens on a side is what happens on both. With it: what an event leaves as it was for which
+-- memory was wanting.
+use Rattle.mm_schedule.specs.declared.event.Meddles.{Meddles}
+use Rattle.mm_sides.specs.BothSides.{sides_seen_from}
+use Rattle.mm_sides.specs.Folds.{BothAct, Plain}
+use Rattle.mm_transfer.specs.declared.event.Command.{Command as CodeCommand}
+use Rattle.mm_transfer.specs.declared.event.SideAct.{SideAct as CodeAct}
+use Rattle.mm_transfer.specs.declared.event.SideAct.TheVariants as code
+use Rattle.mm_transfer.specs.declared.event.SideChoice.{SideChoice as CodeWhich}
+use Rattle.mm_transfer.specs.declared.event.SideChoice.TheVariants as which
+use Rattle.mm_transfer.specs.declared.event.SideEvent.{SideEvent}
+use Rattle.mm_transfer.specs.Events.{act_reach, outcome_of_act, AreWithin, ActDone, ActLacks, ActGoes, TransferSides, transfer_sides_in}
+use Rattle.mm_transfer.specs.Events.{outcome_in, TransferSidesLackMemory}
+use Rattle.mm_transfer.specs.MovePlan.{BothEventLacksMemory, MayHaveRead, AskWants, PlainWants, ActWants}
 use Rattle.mm_transfer.proofs.Below.{◌≡◌, ◌∙◌, ◌^◌, ◌<◌, ℕ, List, length, Option, None, Some, Result, Ok, Err, refl, sym, ap, subst, arith}
 use Rattle.mm_transfer.proofs.Below.{MatchResult, IfOk, OnOk, OnErr, sum_by, Memory, StepFault, Meddle, Stop, Instance, Digests, walk}
 use Rattle.mm_transfer.proofs.Below.{course_of, meddles_of, Header, SideName, First, Second, Pair, instance_on, BothSides, sides_swapped}
@@ -6,18 +19,8 @@ use Rattle.mm_transfer.proofs.Below.{digest_mover, Moves, BothEvent, sides_after
 use Rattle.mm_transfer.proofs.Below.{move_end_outcome, move_outcome, move_steps, outcome_if_found, MoveCommand, Accept, FoundMove}
 use Rattle.mm_transfer.proofs.Below.{DenialCause, Effect, Invites, IssuedTickets, MoveReply, CodeSide, Inside, both_with}
 use Rattle.mm_transfer.proofs.Below.{outcome_of_command, FitsIssuedTickets, CommandDone, CommandLacks, CommandGoes, act_of, command_of}
-use Rattle.mm_transfer.proofs.Below.{command_reach, side_event_of, which_of, side_in, within_64, pair_of, move_reply_of, IsSayable}
-use Rattle.mm_schedule.specs.declared.event.Meddles.{Meddles}
-use Rattle.mm_sides.specs.Folds.{BothAct}
-use Rattle.mm_transfer.specs.declared.event.SideAct.{SideAct as CodeAct}
-use Rattle.mm_transfer.specs.declared.event.SideAct.TheVariants as code
-use Rattle.mm_transfer.specs.declared.event.Command.{Command as CodeCommand}
-use Rattle.mm_transfer.specs.declared.event.SideEvent.{SideEvent}
-use Rattle.mm_transfer.specs.declared.event.SideChoice.{SideChoice as CodeWhich}
-use Rattle.mm_transfer.specs.declared.event.SideChoice.TheVariants as which
-use Rattle.mm_transfer.specs.ActOutcome.{act_reach, outcome_of_act, AreWithin, ActDone, ActLacks, ActGoes}
-use Rattle.mm_transfer.specs.Sides.{TransferSides, transfer_sides_in, outcome_in}
-use Rattle.mm_transfer.specs.MemoryWant.{BothEventLacksMemory}
+use Rattle.mm_transfer.proofs.Below.{command_reach, side_event_of, which_of, side_in, within_64, pair_of, move_reply_of, IsSayable, [], ◌∷◌}
+use Rattle.mm_transfer.proofs.Below.{inl, inr, Reads, DeviceStep, Event, Ask, Power, Role, Live, SideState}
 
 -- no move is answered as an event of a schedule is
 told_sayable : (pair : Pair) (i : Instance) (both : BothSides Digests ℕ) (stop : Stop) (found : FoundMove) (effect : Effect)
@@ -220,3 +223,60 @@ event_second old held event new here between committed result came view few is c
     let new_comes = subst (λ (both : BothSides Digests ℕ). Comes held event both came) (sym now) held_comes in
     let result_comes = subst (λ (r : Result MoveReply Memory). Comes held event new r) (sym came_is) new_comes in
     subst (λ (w : CodeWhich). Comes held (record { which = which_of w; act = act }) new result) (sym is) result_comes
+
+-- What an event leaves as it was for which memory was wanting.
+
+-- by what both are
+pub held_wants : (old : TransferSides) (event : BothEvent) (header : Header) (new : BothSides Digests ℕ) (result : Result MoveReply Memory)
+    → header ≡ old.header → OnErr result (BothEventLacksMemory (pair_of old.header) event old.both new)
+    → OnErr result (TransferSidesLackMemory event old (record { header = header; both = new }))
+held_wants old event header new (Ok reply) is w = tt
+held_wants old event header new (Err memory) is w = record { header = is; both = w }
+
+-- no snapshot was issued on the side
+
+read_issues : (i : Instance) (steps : List DeviceStep) (meddles : List Meddle) (stop : Stop) (old new : SideState Digests)
+    → MayHaveRead i steps meddles stop old new → new.issued ≡ old.issued
+read_issues i steps meddles stop old new w =
+    elim w [ inl e ↦ ap (λ (s : SideState Digests). s.issued) e | inr e ↦ ap (λ (s : SideState Digests). s.issued) e ]
+
+ask_issues : (i : Instance) (role : Role) (meddles : List Meddle) (stop : Stop) (old new : SideState Digests)
+    → AskWants i role meddles stop old new → new.issued ≡ old.issued
+ask_issues i Live meddles stop old new w = read_issues i _ meddles stop old new w
+ask_issues i role meddles stop old new w = ap (λ (s : SideState Digests). s.issued) w
+
+plain_issues : (i : Instance) (event : Event) (old new : SideState Digests) → PlainWants i event old new → new.issued ≡ old.issued
+plain_issues i (Ask meddles stop offer b) old new w = ask_issues i old.role meddles stop old new w
+plain_issues i Power old new w = absurd w
+plain_issues i event old new w = ap (λ (s : SideState Digests). s.issued) w
+
+act_issues : (i : Instance) (act : BothAct) (old new : SideState Digests) → ActWants i act old new → new.issued ≡ old.issued
+act_issues i (Plain event) old new w = plain_issues i event old new w
+act_issues i (Moves meddles stop command) old new w = read_issues i (Reads ∷ []) meddles stop old new w
+
+-- what counts against the limits is as it was
+pub record CountsSame (old new : BothSides Digests ℕ) : Type 0 where
+  pub first : new.first.issued ≡ old.first.issued
+  pub second : new.second.issued ≡ old.second.issued
+  pub tickets : new.tickets ≡ old.tickets
+  pub committed : new.committed ≡ old.committed
+
+counts_by : (i : Instance) (which : SideName) (act : BothAct) (old new : BothSides Digests ℕ)
+    → ActWants i act (sides_seen_from which old).first (sides_seen_from which new).first
+    → sides_seen_from which new ≡ record (sides_seen_from which old) { first = (sides_seen_from which new).first } → CountsSame old new
+counts_by i First act old new w e = record {
+  first = act_issues i act old.first new.first w;
+  second = ap (λ (b : BothSides Digests ℕ). b.second.issued) e;
+  tickets = ap (λ (b : BothSides Digests ℕ). b.tickets) e;
+  committed = ap (λ (b : BothSides Digests ℕ). b.committed) e;
+}
+counts_by i Second act old new w e = record {
+  first = ap (λ (b : BothSides Digests ℕ). b.second.issued) e;
+  second = act_issues i act old.second new.second w;
+  tickets = ap (λ (b : BothSides Digests ℕ). b.tickets) e;
+  committed = ap (λ (b : BothSides Digests ℕ). b.committed) e;
+}
+
+pub counts_same : (pair : Pair) (event : BothEvent) (old new : BothSides Digests ℕ) → BothEventLacksMemory pair event old new
+    → CountsSame old new
+counts_same pair event old new w = counts_by (instance_on pair event.which) event.which event.act old new w.here w.rest

@@ -1,20 +1,82 @@
--- A command on a side comes to what it comes to by digests: what is common to all commands.
-use Rattle.mm_transfer.proofs.Below.{◌≡◌, ◌≤◌, ◌+◌, ◌&&◌, ℕ, Bool, true, false, not, List, length, Option, None, Some, Result, Ok, Err}
-use Rattle.mm_transfer.proofs.Below.{refl, sym, ap, ◌∙◌, subst, arith, MatchResult, if◌then◌else◌, is_some, sum_by, Memory, StepFault}
-use Rattle.mm_transfer.proofs.Below.{Meddle, Stop, Standing, Instance, Digests, walk, course_of, way_of, offered_bytes, Offer, Link}
-use Rattle.mm_transfer.proofs.Below.{ReadyMove, MoveRefusal, Role, Effect, SideName, Pair, instance_on, SideState, BothSides, digest_mover}
-use Rattle.mm_transfer.proofs.Below.{DenialCause, FoundMove, MoveCommand, Denied, move_steps, effect_if, effect_of, state_after_steps}
-use Rattle.mm_transfer.proofs.Below.{sides_after_effect_if, found_command, outcome_if_found, move_end_outcome, role_after, IssuedTickets}
-use Rattle.mm_transfer.proofs.Below.{MoveReply, CodeSide, TellsRefusalAs, both_with, command_reach, outcome_of_command, FitsIssuedTickets}
-use Rattle.mm_transfer.proofs.Below.{CommandDone, CommandLacks, has_moved, role_in, at_in, within_64, FitsSide, MovesByPlan, has_effect_at}
-use Rattle.mm_transfer.proofs.Below.{move_reply_of, refusal_of}
+-- A command on a side comes to what it comes to by digests. With it: which effect a move had, by
+-- how it was stopped.
 use Rattle.mm_model.specs.declared.refusal.Refusal.TheVariants as core
 use Rattle.mm_move.specs.declared.refusal.MoveRefusal.TheVariants as refusal
 use Rattle.mm_transfer.specs.declared.reply.MoveReply.TheVariants as reply
+use Rattle.mm_transfer.proofs.Below.{◌≡◌, ℕ, Bool, true, false, List, [], Option, None, Some, Result, Ok, Err, refl, sym, ap, ◌∙◌, ◌==◌}
+use Rattle.mm_transfer.proofs.Below.{◌&&◌, is_some, if◌then◌else◌, StepFault, Meddle, Stop, fault_at, is_made_at, Reads, End, Done, Fails}
+use Rattle.mm_transfer.proofs.Below.{walk, walk_from_step, end_of, course_of, takes_effect, stopped_at, Effect, DenialCause, FoundMove}
+use Rattle.mm_transfer.proofs.Below.{move_steps, is_moved, effect_if, effect_of, has_effect_at, ◌≤◌, ◌+◌, not, length, subst, arith}
+use Rattle.mm_transfer.proofs.Below.{MatchResult, sum_by, Memory, Standing, Instance, Digests, way_of, offered_bytes, Offer, Link}
+use Rattle.mm_transfer.proofs.Below.{ReadyMove, MoveRefusal, Role, SideName, Pair, instance_on, SideState, BothSides, digest_mover}
+use Rattle.mm_transfer.proofs.Below.{MoveCommand, Denied, state_after_steps, sides_after_effect_if, found_command, outcome_if_found}
+use Rattle.mm_transfer.proofs.Below.{move_end_outcome, role_after, IssuedTickets, MoveReply, CodeSide, TellsRefusalAs, both_with}
+use Rattle.mm_transfer.proofs.Below.{command_reach, outcome_of_command, FitsIssuedTickets, CommandDone, CommandLacks, has_moved, role_in}
+use Rattle.mm_transfer.proofs.Below.{at_in, within_64, FitsSide, MovesByPlan, move_reply_of, refusal_of}
 use Rattle.mm_transfer.proofs.Commanding.{said_cause, never_moved, CameAs, Knows, KnowsOf, Came, role_then, at_then, away_then, both_of}
 use Rattle.mm_transfer.proofs.Commanding.{affected_is, within_then, FitsThen, brought_then, side_then}
-use Rattle.mm_transfer.proofs.Moved.{made_if, MovedBy, moved_by}
 use Rattle.mm_transfer.proofs.SideStands.{KeepsFor}
+
+-- Which effect a move had, by how it was stopped.
+
+-- which effect a move had, by how it was stopped
+
+fail_first : (stop : Stop) (fault : StepFault) (made : Bool) → end_of (fault_at stop 1) (is_made_at stop 1) ≡ Fails fault made
+    → false ≡ has_effect_at stop
+fail_first stop fault made e = sym (ap (λ n. (n == 2) && takes_effect stop) (stopped_at stop 1 fault made e).number)
+
+fail_second : (stop : Stop) (fault : StepFault) (made : Bool) → end_of (fault_at stop 2) (is_made_at stop 2) ≡ Fails fault made
+    → made ≡ has_effect_at stop
+fail_second stop fault made e =
+    let at = stopped_at stop 2 fault made e in at.effect ∙ sym (ap (λ n. (n == 2) && takes_effect stop) at.number)
+
+-- the effect of what was found, if it is made
+abbrev pub made_if : Bool → Result FoundMove DenialCause → Option Effect
+made_if moved (Ok found) = if found.again then None else effect_if moved found.effect
+made_if moved (Err cause) = None
+
+-- A whole move has its effect; one that is broken off has it as its stop says, and is told so.
+abbrev pub MovedBy : Stop → Option StepFault → Result FoundMove DenialCause → Option Effect → Type 0
+MovedBy stop None found effect = effect ≡ made_if true found
+MovedBy stop (Some fault) found effect = (effect ≡ made_if (has_effect_at stop) found) × (is_some effect ≡ has_effect_at stop)
+
+one_moved : (stop : Stop) (values : List (List ℕ)) (e other : End) (found : Result FoundMove DenialCause)
+    → end_of (fault_at stop 1) (is_made_at stop 1) ≡ e → ((moved : Bool) → made_if moved found ≡ None)
+    → MovedBy stop (walk_from_step Reads values e (record { moves = []; steps = 0; writes = 0; broken = None })).broken found None
+one_moved stop values Done other found e none = sym (none true)
+one_moved stop values (Fails fault made) other found e none = (sym (none (has_effect_at stop)), fail_first stop fault made e)
+
+two_moved : (stop : Stop) (v w : List (List ℕ)) (e f : End) (effect : Effect) → end_of (fault_at stop 1) (is_made_at stop 1) ≡ e
+    → end_of (fault_at stop 2) (is_made_at stop 2) ≡ f
+    → MovedBy stop (walk_from_step Reads v e
+    (walk_from_step Reads w f (record { moves = []; steps = 0; writes = 0; broken = None }))).broken
+    (Ok (record { again = false; effect = effect })) (effect_if (is_moved e f) effect)
+two_moved stop v w Done Done effect e f = refl
+two_moved stop v w Done (Fails fault made) effect e f =
+    let is : made ≡ has_effect_at stop = fail_second stop fault made f in (ap (λ b. effect_if b effect) is, some_if made effect ∙ is)
+  where
+    some_if : (moved : Bool) (effect : Effect) → is_some (effect_if moved effect) ≡ moved
+    some_if true effect = refl
+    some_if false effect = refl
+two_moved stop v w (Fails fault made) other effect e f =
+    let is : false ≡ has_effect_at stop = fail_first stop fault made e in (ap (λ b. effect_if b effect) is, is)
+
+pub moved_by : (stop : Stop) (meddles : List Meddle) (found : Result FoundMove DenialCause)
+    → MovedBy stop (walk (course_of stop meddles).fates 1 (move_steps found)).broken found (effect_of (course_of stop meddles).fates found)
+moved_by stop meddles (Err cause) = one_moved stop _ (end_of (fault_at stop 1) (is_made_at stop 1)) Done (Err cause) refl (λ moved. refl)
+moved_by stop meddles (Ok found) = moved_found found.again found.effect
+  where
+    moved_found : (again : Bool) (effect : Effect)
+        → (let found : Result FoundMove DenialCause = Ok (record { again = again; effect = effect }) in
+        MovedBy stop (walk (course_of stop meddles).fates 1 (move_steps found)).broken found
+        (effect_of (course_of stop meddles).fates found))
+    moved_found true effect =
+        one_moved stop _ (end_of (fault_at stop 1) (is_made_at stop 1)) Done (Ok (record { again = true; effect = effect })) refl
+        (λ moved. refl)
+    moved_found false effect =
+        two_moved stop _ _ (end_of (fault_at stop 1) (is_made_at stop 1)) (end_of (fault_at stop 2) (is_made_at stop 2)) effect refl refl
+
+-- A command on a side comes to what it comes to by digests: what is common to all commands.
 
 -- the effect that was made, whether the move was whole or broken off
 

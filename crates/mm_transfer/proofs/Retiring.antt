@@ -1,22 +1,139 @@
--- An invitation to a side, and a retirement of it, come to what they come to by digests.
-use Rattle.mm_transfer.proofs.Below.{◌≡◌, ◌+◌, ◌&&◌, ℕ, Bool, true, not, List, [], ◌∷◌, ◌++◌, length, None, Some, Result, Ok, inl, inr}
-use Rattle.mm_transfer.proofs.Below.{refl, sym, ap, ◌∙◌, subst, arith, length-append, MatchResult, if◌then◌else◌, Memory, Meaning, Meddle}
-use Rattle.mm_transfer.proofs.Below.{Stop, Standing, Digests, register_reading, walk, course_of, offered_bytes, Offer, IsQuiet, Link}
-use Rattle.mm_transfer.proofs.Below.{MoveRefusal, moved_cell_of, waiting_for, invitation_in, retirement_in, Invited, Role, Effect, Invites}
-use Rattle.mm_transfer.proofs.Below.{Leaves, is_live, SideName, Pair, key_of, instance_on, BothSides, digest_mover, FoundMove, DenialCause}
-use Rattle.mm_transfer.proofs.Below.{Invite, Retire, invitation_on, retirement_on, move_steps, effect_of, sides_after_issue, effect_reply}
-use Rattle.mm_transfer.proofs.Below.{found_retirement, role_after, IssuedTickets, MoveReply, CodeSide, TellsInvitation, KeepsDigest}
-use Rattle.mm_transfer.proofs.Below.{TellsRetirement, both_with, command_reach, outcome_of_command, FitsIssuedTickets, CommandDone, CommandLacks}
-use Rattle.mm_transfer.proofs.Below.{has_moved, link_of, role_in, at_in, FitsSide, MovesByPlan, move_reply_of, cell_of_role, GivesInvited}
-use Rattle.mm_transfer.proofs.Below.{GivesInvitedBy, GivesTicket, GivesTicketBy, FitsLive, Instance, within_64, false, kept_more}
+-- An invitation to a side, and a retirement of it, come to what they come to by digests. With it: a
+-- command for which memory was wanting, or whose offer names nothing.
 use Rattle.mm_world.specs.declared.seat.Seat.{Seat}
 use Rattle.mm_transfer.specs.declared.reply.MoveReply.TheVariants as reply
-use Rattle.mm_transfer.proofs.Commanded.{by_known, IsIdle, chosen, whole, tell, Told, told_still, move_done, Named}
-use Rattle.mm_transfer.proofs.Lacking.{err_match, lacks_done, SameSide, SameBetween, unissued_done}
-use Rattle.mm_transfer.proofs.Commanding.{Knows, KnowsOf, came_by, at_then, away_then}
-use Rattle.mm_transfer.proofs.Moved.{made_if, moved_by}
+use Rattle.mm_transfer.proofs.Below.{◌≡◌, ℕ, List, length, None, Some, Result, Ok, Err, IsErr, inl, inr, refl, sym, ap, ◌∙◌, subst, arith}
+use Rattle.mm_transfer.proofs.Below.{MatchResult, sum_by, Memory, Meddle, Stop, Standing, Instance, Digests, register_reading, course_of}
+use Rattle.mm_transfer.proofs.Below.{IsQuiet, MoveRefusal, SideName, Pair, instance_on, SideState, digest_mover, MoveCommand, found_command}
+use Rattle.mm_transfer.proofs.Below.{outcome_if_found, unissued_reply, IssuedTickets, MoveReply, CodeSide, both_with, command_reach}
+use Rattle.mm_transfer.proofs.Below.{outcome_of_command, FitsIssuedTickets, CommandDone, CommandLacks, role_in, at_by, at_in, side_in}
+use Rattle.mm_transfer.proofs.Below.{Reads, [], ◌∷◌, ◌⊎◌, moves_seen, state_after_moves, digest_level, within_64, FitsSide, WantsMemory}
+use Rattle.mm_transfer.proofs.Below.{move_reply_of, ◌+◌, ◌&&◌, Bool, true, not, ◌++◌, length-append, if◌then◌else◌, Meaning, walk}
+use Rattle.mm_transfer.proofs.Below.{offered_bytes, Offer, Link, moved_cell_of, waiting_for, invitation_in, retirement_in, Invited, Role}
+use Rattle.mm_transfer.proofs.Below.{Effect, Invites, Leaves, is_live, key_of, BothSides, FoundMove, DenialCause, Invite, Retire}
+use Rattle.mm_transfer.proofs.Below.{invitation_on, retirement_on, move_steps, effect_of, sides_after_issue, effect_reply, found_retirement}
+use Rattle.mm_transfer.proofs.Below.{role_after, TellsInvitation, KeepsDigest, TellsRetirement, has_moved, link_of, MovesByPlan}
+use Rattle.mm_transfer.proofs.Below.{cell_of_role, GivesInvited, GivesInvitedBy, GivesTicket, GivesTicketBy, FitsLive, false, kept_more}
+use Rattle.mm_transfer.proofs.Commanded.{by_known, IsIdle, chosen, whole, tell, Told, told_still, move_done, Named, made_if, moved_by}
+use Rattle.mm_transfer.proofs.Commanding.{seen_digests, Knows, KnowsOf, came_by, at_then, away_then}
 use Rattle.mm_transfer.proofs.Matching.{invites_match, retires_match}
-use Rattle.mm_transfer.proofs.SideStands.{variant_by, meaning_by, key_by, KeepsFor, keeps_equal, same_keeps}
+use Rattle.mm_transfer.proofs.SideStands.{KeepsFor, same_keeps, side_stays, variant_by, meaning_by, key_by, keeps_equal}
+
+-- A command for which memory was wanting, or whose offer names nothing.
+
+-- want of memory
+
+pub err_match : (P : MoveReply → Type 0) (Q : Type 0) (result : Result MoveReply Memory) → IsErr result → Q → MatchResult result P (λ _. Q)
+err_match P Q (Ok said) is q = absurd (cc)
+err_match P Q (Err memory) is q = q
+
+-- the register has the value that it had, or that it has once the first step is made
+abbrev IsReached : Instance → Digests → List Meddle → Stop → List ℕ → Type 0
+IsReached i d meddles stop value =
+    (value ≡ d.register)
+    ⊎ (value ≡ (state_after_moves (digest_level i) d (moves_seen (course_of stop meddles).fates (Reads ∷ []) 1)).register)
+
+-- a side whose cell is as it was
+lacks_side : (pair : Pair) (which : SideName) (stop : Stop) (meddles : List Meddle) (old new : CodeSide)
+    (was now : IssuedTickets) (value : List ℕ)
+    → IsReached (instance_on pair which) (at_in old) meddles stop value → FitsSide pair which old
+    → new.seat.platform.cell ≡ old.seat.platform.cell → register_reading new.seat.platform ≡ Some value → IsQuiet new.seat.platform
+    → new.seat.committed ≡ old.seat.committed → KeepsFor (role_in old.seat.platform.cell) new.digest.bytes (at_in old)
+    → new.seat.issued.items ≡ old.seat.issued.items → now.tickets.items ≡ was.tickets.items → now.kept ≡ was.kept → now.away ≡ was.away
+    → CommandLacks pair which meddles stop (command_reach old was) (command_reach new now)
+lacks_side pair which stop meddles old new was now value reached fits cell register quiet position keeps issued tickets counted away =
+    let i = instance_on pair which in
+    let d = at_in old in
+    let is = side_stays pair which old new value fits cell register quiet position keeps in
+    let side = λ (seen : Digests) (e : record d { register = value } ≡ seen).
+    let at = is.at_is ∙ e in
+    let whole : side_in new ≡ record (side_in old) { at = seen } =
+    (λ j. record { role = is.role_is j; at = at j; issued = issued j }) in whole in
+    record {
+      fits = is.fits;
+      side = elim reached [
+        | inl e ↦ inl (side d (λ j. record d { register = e j }))
+        | inr e ↦
+            let fates = (course_of stop meddles).fates in
+            let seen : Digests = state_after_moves (digest_level i) d (moves_seen fates (Reads ∷ []) 1) in
+            inr (side seen ((λ j. record d { register = e j }) ∙ sym (seen_digests i d fates (Reads ∷ []) 1)))
+      ];
+      committed = position;
+      tickets = tickets;
+      kept = counted;
+      away = away;
+    }
+
+pub lacks_done : {A : Type 0} (pair : Pair) (which : SideName) (stop : Stop) (meddles : List Meddle) (old new : CodeSide)
+    (was now : IssuedTickets)
+    (from to : Standing) (came : Result A MoveRefusal) → FitsSide pair which old
+    → WantsMemory (instance_on pair which) (at_in old) stop meddles from to came → from.cell ≡ old.seat.platform.cell
+    → new.seat.platform ≡ to
+    → new.seat.committed ≡ old.seat.committed → KeepsFor (role_in old.seat.platform.cell) new.digest.bytes (at_in old)
+    → new.seat.issued.items ≡ old.seat.issued.items → now.tickets.items ≡ was.tickets.items → now.kept ≡ was.kept → now.away ≡ was.away
+    → CommandLacks pair which meddles stop (command_reach old was) (command_reach new now)
+lacks_done pair which stop meddles old new was now from to came fits w cell platform position keeps issued tickets counted away =
+    elim w.register [ inl e ↦ reads _ (inl refl) e | inr e ↦ reads _ (inr refl) e ]
+  where
+    reads : (value : List ℕ) → IsReached (instance_on pair which) (at_in old) meddles stop value → register_reading to ≡ Some value
+        → CommandLacks pair which meddles stop (command_reach old was) (command_reach new now)
+    reads value reached e = lacks_side pair which stop meddles old new was now value reached fits
+        (ap (λ (s : Standing). s.cell) platform ∙ w.cell ∙ cell)
+        (ap register_reading platform ∙ e) (subst IsQuiet (sym platform) w.quiet) position keeps issued tickets counted away
+
+-- nothing happened to a side, but to its platform
+
+pub record SameSide (old new : CodeSide) : Type 0 where
+  pub digest : new.digest ≡ old.digest
+  pub issued : new.seat.issued.items ≡ old.seat.issued.items
+  pub committed : new.seat.committed ≡ old.seat.committed
+
+pub record SameBetween (was now : IssuedTickets) : Type 0 where
+  pub tickets : now.tickets.items ≡ was.tickets.items
+  pub kept : now.kept ≡ was.kept
+  pub away : now.away ≡ was.away
+
+pub still_lacks : (pair : Pair) (which : SideName) (stop : Stop) (meddles : List Meddle) (old new : CodeSide) (was now : IssuedTickets)
+    → FitsSide pair which old → new.seat.platform ≡ old.seat.platform → SameSide old new → SameBetween was now
+    → CommandLacks pair which meddles stop (command_reach old was) (command_reach new now)
+still_lacks pair which stop meddles old new was now fits platform s b =
+    lacks_side pair which stop meddles old new was now (at_in old).register (inl refl) fits (ap (λ (x : Standing). x.cell) platform)
+    (ap register_reading platform ∙ fits.stands.register) (subst IsQuiet (sym platform) fits.quiet) s.committed
+    (same_keeps old new s.digest)
+    s.issued b.tickets b.kept b.away
+
+-- a number that isn't issued: nothing is called
+pub unissued_done : (pair : Pair) (which : SideName) (stop : Stop) (meddles : List Meddle) (command : MoveCommand) (said : MoveReply)
+    (old new : CodeSide) (was now : IssuedTickets) → FitsSide pair which old → FitsIssuedTickets was → new.seat.platform ≡ old.seat.platform
+    → SameSide old new → SameBetween was now → said ≡ move_reply_of (unissued_reply command)
+    → ((other : SideState Digests) (committed : ℕ) → found_command digest_mover pair (instance_on pair which)
+    (both_with old was other committed) command ≡ None)
+    → CommandDone pair which (command_reach old was) (command_reach new now)
+    (outcome_of_command pair which (command_reach old was) meddles stop command) said
+unissued_done pair which stop meddles command said old new was now fits counted platform s b says none =
+    let i = instance_on pair which in
+    let same : side_in new ≡ side_in old = λ j. record {
+      role = role_in (platform j).cell;
+      at = at_by (role_in (platform j).cell) (platform j) (s.digest j).bytes (s.committed j);
+      issued = s.issued j;
+    } in
+    record {
+      fits = (still_lacks pair which stop meddles old new was now fits platform s b).fits;
+      between = subst (λ (x : List (List ℕ)). now.kept ≡ within_64 (sum_by length x)) (sym b.tickets) (b.kept ∙ counted);
+      both = λ other committed.
+          (λ j. record { first = same j; second = other; away = b.away j; tickets = b.tickets j; committed = committed })
+          ∙ sym (ap (λ x. (outcome_if_found digest_mover pair i (both_with old was other committed) meddles stop command x).both)
+          (none other committed));
+      says = λ other committed.
+          says ∙ sym (ap (λ x. move_reply_of (outcome_if_found digest_mover pair i (both_with old was other committed) meddles stop
+          command x).reply)
+          (none other committed));
+      issued = omega (arith, ap length s.issued);
+      tickets = omega (arith, ap length b.tickets);
+      counts = λ most p q. (omega (arith, s.committed), omega (arith, b.away));
+    }
+
+-- An invitation to a side, and a retirement of it, come to what they come to by digests.
 
 -- an invitation
 

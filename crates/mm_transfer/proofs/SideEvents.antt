@@ -1,20 +1,25 @@
--- A side in code goes on as its events say.
+-- A side in code goes on as its events say. With it: both sides at first.
+use Rattle.mm_bytes.specs.Limits.{most_members}
+use Rattle.mm_platform.specs.Memory.{new_platform}
+use Rattle.mm_modules.specs.ModulesLaws.{any_is_lawful}
+use Rattle.mm_outcome.specs.OneRun.{rising_bytes_from}
+use Rattle.mm_world.specs.Seat.{SeatStaysOn, SeatLacksMemoryInVain, instance_at, IsBare, IsFirst}
+use Rattle.mm_world.specs.Seat as seat
+use Rattle.mm_transfer.specs.MovePlan.{AskWants, PlainWants}
+use Rattle.mm_transfer.specs.SideCommands.{SideFollows, SideGoesOn}
 use Rattle.mm_transfer.proofs.Below.{◌≡◌, ◌∙◌, ◌+◌, ◌^◌, ◌≤◌, ◌<◌, ℕ, List, length, Some, Result, Ok, Err, inl, inr, refl, sym, ap, subst}
 use Rattle.mm_transfer.proofs.Below.{arith, Memory, IsLawful, meaning_of, Meddle, Stop, Standing, cell_spelling, Instance, Digests}
 use Rattle.mm_transfer.proofs.Below.{moves_seen, reading_steps, digest_level, state_after_moves, cell_at, Event, Ask, Checkpoint, Power}
 use Rattle.mm_transfer.proofs.Below.{Extend, IsPrintable, Offer, Reply, Outcome, Batch, course_of, event_outcome, few_committed, printable}
 use Rattle.mm_transfer.proofs.Below.{issues_one, Role, Live, SideName, Pair, key_of, instance_on, digest_mover, outcome_by_role}
 use Rattle.mm_transfer.proofs.Below.{commits_between, CodeSide, pair_of, role_in, at_in, side_in, refusal_for_role, IsQuiet, StandsAs}
-use Rattle.mm_transfer.proofs.Below.{FitsSide, SideComes, SideLacks}
-use Rattle.mm_bytes.specs.Limits.{most_members}
-use Rattle.mm_modules.specs.ModulesLaws.{any_is_lawful}
-use Rattle.mm_world.specs.Seat.{SeatStaysOn, SeatLacksMemoryInVain}
-use Rattle.mm_world.specs.Seat as seat
-use Rattle.mm_transfer.specs.OneSide.{SideFollows, SideGoesOn}
-use Rattle.mm_transfer.specs.MemoryWant.{AskWants, PlainWants}
+use Rattle.mm_transfer.proofs.Below.{FitsSide, SideComes, SideLacks, [], ◌∷◌, Variant, Basic, Opt, start_digest_of, Meaning, first_history}
+use Rattle.mm_transfer.proofs.Below.{register_reading, cell_of, issued_bytes, instance_by, Header, first_digests, world_key, world_barrier}
+use Rattle.mm_transfer.proofs.Below.{HasDigests, stands_new, blank_cell, length-zero_bytes, Blank, First, Second, first_both_by_digests}
+use Rattle.mm_transfer.proofs.Below.{IsNew}
+use Rattle.mm_transfer.proofs.Commanding.{IsRegister, seen_digests, IsVain, event_vain}
 use Rattle.mm_transfer.proofs.SideStands.{meaning_by, live_stands, stands_live, same_keeps, side_is, side_stays, Stays, stays_same}
-use Rattle.mm_transfer.proofs.SideStands.{fault_where, vain_reads}
-use Rattle.mm_transfer.proofs.Vain.{IsRegister, seen_digests, IsVain, event_vain}
+use Rattle.mm_transfer.proofs.SideStands.{fault_where, vain_reads, key_by, linked_by}
 
 -- What is asked of an outcome that a side comes to.
 record IsFew (committed : ℕ) (issued : List (List ℕ)) (o : Outcome Digests) : Type 0 where
@@ -216,3 +221,83 @@ side_follows event old new (Ok said) bound digest f = record {
 }
 side_follows event old new (Err memory) bound digest f =
     record { headed = f.header; comes = λ which fits. lacks_by which event old new memory fits digest f }
+
+-- Both sides at first.
+
+barrier_by : (variant : Variant) (meaning : Meaning) (key barrier : List ℕ) → length barrier ≡ 32
+    → length (instance_by variant meaning key barrier).barrier ≡ 32
+barrier_by Basic meaning key barrier e = length-zero_bytes
+barrier_by Opt meaning key barrier e = e
+
+start_on : (variant : Variant) (meaning : Meaning) (key barrier : List ℕ)
+    → start_digest_of (instance_by variant meaning key barrier).variant (instance_by variant meaning key barrier).meaning.id
+    ≡ start_digest_of variant
+    meaning.id
+start_on Basic meaning key barrier = refl
+start_on Opt meaning key barrier = refl
+
+length-first_key : length world_key ≡ 32
+unfolding rising_bytes_from
+length-first_key = refl
+
+length-second_key : length (rising_bytes_from 0x40) ≡ 32
+unfolding rising_bytes_from
+length-second_key = refl
+
+length-barrier : length world_barrier ≡ 32
+unfolding rising_bytes_from
+length-barrier = refl
+
+pub live_new : (header : Header) (key barrier : List ℕ) (new : CodeSide) → key ≡ world_key → barrier ≡ world_barrier
+    → IsFirst header key barrier new.seat → IsNew header First (first_both_by_digests (pair_of header)).first new
+live_new header key barrier new same_key same_barrier is =
+    let pair = pair_of header in
+    let i = instance_on pair First in
+    let d : Digests = first_digests i in
+    let same : instance_at header key barrier ≡ i = (λ j. instance_at header (same_key j) (same_barrier j)) in
+    let there : new.seat.platform ≡ new_platform (cell_spelling (cell_of i first_history)) =
+    is.platform ∙ ap (λ (x : Instance). new_platform (cell_spelling (cell_of x first_history))) same in
+    let stands : HasDigests i new.seat.platform d = subst (λ (s : Standing). HasDigests i s d) (sym there)
+    (stands_new header.variant (meaning_of header.«module») world_key world_barrier (cell_spelling (cell_of i first_history))
+    length-first_key length-barrier refl) in
+    let quiet : IsQuiet new.seat.platform =
+    record { is_on = ap (λ (s : Standing). s.is_on) there; plan = ap (λ (s : Standing). s.plan) there } in
+    let side = side_is pair First Live d new (live_stands pair First new.seat.platform d stands) quiet is.committed tt in
+    let issued = is.issued ∙ ap (λ (x : Instance). issued_bytes x first_history ∷ []) same in
+    record {
+      headed = is.headed;
+      fits = side.fits;
+      stands = λ j. record { role = side.role_is j; at = side.at_is j; issued = issued j };
+      committed = is.committed;
+    }
+
+pub blank_new : (header : Header) (cell : List ℕ) (new : CodeSide) → cell ≡ blank_cell → IsBare header cell new.seat
+    → new.digest.bytes ≡ start_digest_of header.variant (meaning_of header.«module»).id
+    → IsNew header Second (first_both_by_digests (pair_of header)).second new
+blank_new header cell new is bare starts =
+    let pair = pair_of header in
+    let i = instance_on pair Second in
+    let d : Digests = first_digests i in
+    let there : new.seat.platform ≡ new_platform blank_cell = bare.platform ∙ ap new_platform is in
+    let digest : new.digest.bytes ≡ d.digest = starts ∙ sym (start_on pair.variant pair.meaning (key_of pair Second) pair.barrier) in
+    let key : length i.key ≡ 32 = ap length (key_by pair.variant pair.meaning (key_of pair Second) pair.barrier) ∙ length-second_key in
+    let stands : StandsAs pair Second Blank new.seat.platform d = record {
+      fits = record {
+        key = key;
+        barrier = barrier_by pair.variant pair.meaning (key_of pair Second) pair.barrier length-barrier;
+        linked = linked_by pair.variant pair.meaning (key_of pair Second) pair.barrier pair.link;
+        fits = refl;
+      };
+      cell = ap (λ (s : Standing). s.cell) there;
+      register = ap register_reading there;
+    } in
+    let quiet : IsQuiet new.seat.platform =
+    record { is_on = ap (λ (s : Standing). s.is_on) there; plan = ap (λ (s : Standing). s.plan) there } in
+    let side = side_is pair Second Blank d new stands quiet bare.committed digest in
+    let issued = bare.issued in
+    record {
+      headed = bare.headed;
+      fits = side.fits;
+      stands = λ j. record { role = side.role_is j; at = side.at_is j; issued = issued j };
+      committed = bare.committed;
+    }

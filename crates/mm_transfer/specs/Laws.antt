@@ -3,9 +3,9 @@ use Rattle.std.specs.Prelude.{◌≡◌, ℕ, List, ◌++◌}
 use Rattle.mm_transfer.specs.Below.{Digests, Header, BothEvent, BothRunOutcome, IsClearPair, IsGenuinePair, IsFreshPair}
 use Rattle.mm_transfer.specs.Below.{both_outcome_joined, both_outcome_of_events, digest_mover}
 use Rattle.mm_evidence.specs.Laws.{RunsUntil}
-use Rattle.mm_sides.specs.Evidence.{HasPairEvidence}
-use Rattle.mm_transfer.specs.Pairs.{pair_of}
-use Rattle.mm_transfer.specs.Headline.{AreOneTransfer, IsOneTransfer}
+use Rattle.mm_sides.specs.Premises.{HasPairEvidence}
+use Rattle.mm_transfer.specs.SideCommands.{pair_of}
+use Rattle.mm_transfer.specs.Stage.{AreOneTransfer, IsOneTransfer}
 
 -- Of each first part of the events that meets the premises the headline says one transfer: a
 -- premise that breaks later costs nothing of it.

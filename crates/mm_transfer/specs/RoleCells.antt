@@ -8,7 +8,7 @@ use Rattle.mm_model.specs.declared.refusal.Refusal.TheVariants as core
 use Rattle.mm_move.specs.declared.cell.RetiredCell.{RetiredCell}
 use Rattle.mm_move.specs.declared.cell.WaitingCell.{WaitingCell}
 use Rattle.mm_move.specs.declared.refusal.MoveRefusal.TheVariants as refusal
-use Rattle.mm_sides.specs.Moves.{Refused}
+use Rattle.mm_sides.specs.BothSides.{Refused}
 
 -- the cell of an instance that is awaited under a nonce
 abbrev pub waiting_cell_at : Instance → List ℕ → WaitingCell

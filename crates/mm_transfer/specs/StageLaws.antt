@@ -2,13 +2,12 @@
 use Rattle.std.specs.Prelude.{◌≡◌, ℕ, ◌+◌, ◌<◌, ◌^◌, List, Option, None, Some}
 use Rattle.std.specs.Option.{option_map}
 use Rattle.std.proofs.Common.{sym, ap, arith}
-use Rattle.mm_play.specs.HeadingStep.{HeadingStep, More, Begins}
-use Rattle.mm_play.specs.StageShows.{heading_step_by}
-use Rattle.mm_play.specs.Stage.{answer_by}
+use Rattle.mm_play.specs.Headline.{HeadingStep, More, Begins}
+use Rattle.mm_play.specs.Stage.{heading_step_by, answer_by}
 use Rattle.mm_play.specs.StageLaws.{same_stage}
 use Rattle.mm_transfer.specs.Below.{BothEvent, Header}
-use Rattle.mm_transfer.specs.Grammar.{first_header_at, event_at}
-use Rattle.mm_transfer.specs.Stage.{TransferState, transfer_after, first_transfer, transfer_steps, transfer_heads, transfer_stage}
+use Rattle.mm_transfer.specs.Stage.{first_header_at, event_at, TransferState, transfer_after, first_transfer, transfer_steps}
+use Rattle.mm_transfer.specs.Stage.{transfer_heads, transfer_stage}
 use Rattle.mm_transfer.specs.declared.opening.FirstLine.{FirstLine}
 
 -- no line of it leads to more lines of it

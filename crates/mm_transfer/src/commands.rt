@@ -2,15 +2,12 @@
 
 ghost use Rattle.std.specs.Prelude.{◌≡◌, ◌<◌, ◌^◌, Some, vec_len, vec_capacity, take, drop};
 ghost use Rattle.mm_schedule.specs.declared.header.Header.{Header};
-ghost use Rattle.mm_sides.specs.BothSides.{key_of};
+ghost use Rattle.mm_sides.specs.BothSides.{key_of, Invite, Retire, Accept, is_live};
 ghost use Rattle.mm_sides.specs.BothSides as both;
-ghost use Rattle.mm_sides.specs.Moves.{Invite, Retire, Accept};
-ghost use Rattle.mm_sides.specs.Roles.{is_live};
 ghost use Rattle.mm_transfer.specs.declared.between.IssuedTickets.{IssuedTickets};
-ghost use Rattle.mm_transfer.specs.SideCommands.{TellsInvitation, TellsEntry, KeepsDigest, command_reach, CommandGoes};
+ghost use Rattle.mm_transfer.specs.SideCommands.{TellsInvitation, TellsEntry, KeepsDigest, command_reach, CommandGoes, link_of, role_in};
+ghost use Rattle.mm_transfer.specs.SideCommands.{digest_by, pair_of};
 ghost use Rattle.mm_transfer.specs.Events.{which_of, command_of};
-ghost use Rattle.mm_transfer.specs.OneSide.{link_of, role_in, digest_by};
-ghost use Rattle.mm_transfer.specs.Pairs.{pair_of};
 
 use crate::between::{IssuedTickets, either};
 use crate::event::{Command, SideChoice};

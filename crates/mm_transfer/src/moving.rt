@@ -2,9 +2,8 @@
 
 ghost use Rattle.std.specs.Prelude.{◌≡◌, ℕ, is_some};
 ghost use Rattle.mm_modules.specs.Modules.{meaning_of};
-ghost use Rattle.mm_move.specs.Cells.{moved_cell_of};
+ghost use Rattle.mm_move.specs.Cells.{moved_cell_of, move_fault_in};
 ghost use Rattle.mm_move.specs.Orders.{waiting_for, invitation_in, retirement_in, acceptance_in};
-ghost use Rattle.mm_move.specs.Refusals.{move_fault_in};
 ghost use Rattle.mm_transfer.specs.SideCommands.{TellsRefusalAs, has_moved};
 ghost use Rattle.mm_transfer.specs.MovePlan.{MovesByPlan, has_effect_at};
 

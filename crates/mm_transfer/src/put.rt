@@ -2,9 +2,8 @@
 
 ghost use Rattle.std.specs.Prelude.{◌≡◌, ◌++◌, [], ◌∷◌, codes, OnOk};
 ghost use Rattle.std.specs.Fmt.{decimal};
-ghost use Rattle.mm_transfer.specs.Answers.{answer_text, end_line, move_cause_text, move_text, effect_text, side_text};
+ghost use Rattle.mm_transfer.specs.MovePlan.{answer_text, end_line, move_cause_text, move_text, effect_text, side_text, IsSayable};
 ghost use Rattle.mm_transfer.specs.Events.{which_of};
-ghost use Rattle.mm_transfer.specs.Replies.{IsSayable};
 
 use crate::event::SideChoice;
 use crate::reply::{MoveCause, MoveReply};

@@ -2,13 +2,12 @@
 
 ghost use Rattle.std.specs.Prelude.{◌≡◌, ◌↔◌, List, Some, None, IfOk, IsErrOf};
 ghost use Rattle.std.specs.Option.{option_map};
-ghost use Rattle.mm_module.specs.Values.{value_at};
+ghost use Rattle.mm_module.specs.Meaning.{value_at};
 ghost use Rattle.mm_platform.specs.declared.plan.Meddle.{Meddle};
-ghost use Rattle.mm_schedule.specs.Events.{meddles_of};
-ghost use Rattle.mm_schedule.specs.Texts.{offer_of};
+ghost use Rattle.mm_schedule.specs.Events.{meddles_of, offer_of};
 ghost use Rattle.mm_transfer.specs.Events.{which_of, side_event_of};
-ghost use Rattle.mm_transfer.specs.Grammar.{first_header_at, side_at, named_offer_at, raw_offer_at, flipped_offer_at, whole_offer_at, retirement_at, command_at, ask_at, call_at, prefixed_act_at, act_at, event_at};
-ghost use Rattle.mm_transfer.specs.Texts as texts;
+ghost use Rattle.mm_transfer.specs.Stage.{first_header_at, side_at, named_offer_at, raw_offer_at, flipped_offer_at, whole_offer_at, retirement_at, command_at, ask_at, call_at, prefixed_act_at, act_at, event_at};
+ghost use Rattle.mm_transfer.specs.Stage as texts;
 
 use crate::event::{SideChoice, SideEvent};
 use crate::nonce::Nonce;
@@ -22,7 +21,7 @@ use std::alloc::Global;
 
 /// What the first line names, as `memoir transfer 1 basic counter`. None where the line is outside
 /// the grammar.
-#[tactic(auto, unfolding(crate::specs::Grammar::first_header_at))]
+#[tactic(auto, unfolding(crate::specs::Stage::first_header_at))]
 pub fn read_first(line: &[u8]) -> Option<Header>
     ensures { result ≡ first_header_at line.now }
 {
@@ -44,7 +43,7 @@ pub fn read_side_event(alloc: Global, line: &[u8]) -> Result<SideEvent, EventFau
 }
 
 // The event of a line, with its meddles put into `meddles`.
-#[tactic(auto, unfolding(crate::specs::Grammar::event_at))]
+#[tactic(auto, unfolding(crate::specs::Stage::event_at))]
 fn event_in<'a>(line: &'a [u8], meddles: &mut Meddles) -> Option<SideEventText<'a>>
     ensures { option_map (texts.event_in (meddles_of meddles.new)) result ≡ event_at line.now }
 {
@@ -55,7 +54,7 @@ fn event_in<'a>(line: &'a [u8], meddles: &mut Meddles) -> Option<SideEventText<'
 }
 
 // A side, by its number.
-#[tactic(auto, unfolding(crate::specs::Grammar::side_at))]
+#[tactic(auto, unfolding(crate::specs::Stage::side_at))]
 fn which_in(word: &[u8]) -> Option<SideChoice>
     ensures { option_map which_of result ≡ side_at word.now }
 {
@@ -69,7 +68,7 @@ fn which_in(word: &[u8]) -> Option<SideChoice>
 }
 
 // What happens on a side.
-#[tactic(auto, unfolding(crate::specs::Grammar::act_at))]
+#[tactic(auto, unfolding(crate::specs::Stage::act_at))]
 fn act_in<'a>(line: &'a [u8], meddles: &mut Meddles) -> Option<ActText<'a>>
     ensures { option_map (texts.act_in (meddles_of meddles.new)) result ≡ act_at line.now }
 {
@@ -84,7 +83,7 @@ fn act_in<'a>(line: &'a [u8], meddles: &mut Meddles) -> Option<ActText<'a>>
 }
 
 // A call or a command with what comes before it.
-#[tactic(auto, unfolding(crate::specs::Grammar::prefixed_act_at))]
+#[tactic(auto, unfolding(crate::specs::Stage::prefixed_act_at))]
 fn prefixed_in<'a>(line: &'a [u8], meddles: &mut Meddles) -> Option<ActText<'a>>
     ensures { option_map (texts.act_in (meddles_of meddles.new)) result
         ≡ prefixed_act_at line.now }
@@ -96,7 +95,7 @@ fn prefixed_in<'a>(line: &'a [u8], meddles: &mut Meddles) -> Option<ActText<'a>>
 }
 
 // A call or a command behind its meddles and its stop.
-#[tactic(auto, unfolding(crate::specs::Grammar::call_at))]
+#[tactic(auto, unfolding(crate::specs::Stage::call_at))]
 fn call_in(stop: Stop, line: &[u8]) -> Option<ActText<'_>>
     ensures { (meddles : List Meddle)
         → option_map (texts.act_in meddles) result ≡ call_at meddles stop line.now }
@@ -112,7 +111,7 @@ fn call_in(stop: Stop, line: &[u8]) -> Option<ActText<'_>>
 }
 
 // An offer and a request behind `ask`.
-#[tactic(auto, unfolding(crate::specs::Grammar::ask_at))]
+#[tactic(auto, unfolding(crate::specs::Stage::ask_at))]
 fn ask_in(stop: Stop, line: &[u8]) -> Option<ActText<'_>>
     ensures { (meddles : List Meddle)
         → option_map (texts.act_in meddles) result ≡ ask_at meddles stop line.now }
@@ -126,7 +125,7 @@ fn ask_in(stop: Stop, line: &[u8]) -> Option<ActText<'_>>
 }
 
 // A command.
-#[tactic(auto, unfolding(crate::specs::Grammar::command_at))]
+#[tactic(auto, unfolding(crate::specs::Stage::command_at))]
 fn command_in(line: &[u8]) -> Option<CommandText<'_>>
     ensures { option_map texts.command_in result ≡ command_at line.now }
 {
@@ -152,7 +151,7 @@ fn nonce_in(word: &[u8]) -> Option<Nonce>
 }
 
 // A nonce and an offer behind `retire`.
-#[tactic(auto, unfolding(crate::specs::Grammar::retirement_at))]
+#[tactic(auto, unfolding(crate::specs::Stage::retirement_at))]
 fn retire_in(line: &[u8]) -> Option<CommandText<'_>>
     ensures { option_map texts.command_in result ≡ retirement_at line.now }
 {
@@ -163,7 +162,7 @@ fn retire_in(line: &[u8]) -> Option<CommandText<'_>>
 }
 
 // An offer up to the end of the line.
-#[tactic(auto, unfolding(crate::specs::Grammar::whole_offer_at))]
+#[tactic(auto, unfolding(crate::specs::Stage::whole_offer_at))]
 fn whole_offer_in(line: &[u8]) -> Option<OfferText<'_>>
     ensures { option_map offer_of result ≡ whole_offer_at line.now }
 {
@@ -174,7 +173,7 @@ fn whole_offer_in(line: &[u8]) -> Option<OfferText<'_>>
 }
 
 // Two numbers behind `flip`, up to the end of the line.
-#[tactic(auto, unfolding(crate::specs::Grammar::flipped_offer_at))]
+#[tactic(auto, unfolding(crate::specs::Stage::flipped_offer_at))]
 fn flipped_in(line: &[u8]) -> Option<OfferText<'_>>
     ensures { option_map offer_of result ≡ flipped_offer_at line.now }
 {
@@ -185,7 +184,7 @@ fn flipped_in(line: &[u8]) -> Option<OfferText<'_>>
 }
 
 // A number, `last`, or bytes behind `raw`, up to the end of the line.
-#[tactic(auto, unfolding(crate::specs::Grammar::named_offer_at))]
+#[tactic(auto, unfolding(crate::specs::Stage::named_offer_at))]
 fn named_in(line: &[u8]) -> Option<OfferText<'_>>
     ensures { option_map offer_of result ≡ named_offer_at line.now }
 {
@@ -200,7 +199,7 @@ fn named_in(line: &[u8]) -> Option<OfferText<'_>>
 }
 
 // Bytes behind `raw`, up to the end of the line.
-#[tactic(auto, unfolding(crate::specs::Grammar::raw_offer_at))]
+#[tactic(auto, unfolding(crate::specs::Stage::raw_offer_at))]
 fn raw_in(word: &[u8]) -> Option<OfferText<'_>>
     ensures { option_map offer_of result ≡ raw_offer_at word.now }
 {

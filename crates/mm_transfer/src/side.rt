@@ -42,8 +42,7 @@ impl Side {
     ghost use Rattle.std.specs.Prelude.{◌≡◌, ◌<◌, ◌^◌, IfOk};
     ghost use Rattle.mm_schedule.specs.Events.{event_of};
     ghost use Rattle.mm_sides.specs.BothSides.{First, Second, first_both_by_digests};
-    ghost use Rattle.mm_transfer.specs.Pairs.{pair_of};
-    ghost use Rattle.mm_transfer.specs.OneSide.{IsNew, SideFollows};
+    ghost use Rattle.mm_transfer.specs.SideCommands.{pair_of, IsNew, SideFollows};
 
     /// The side that the module is on at first: provisioned for the header's module, with its first
     /// snapshot.

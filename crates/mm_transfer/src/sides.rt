@@ -6,12 +6,8 @@ ghost use Rattle.mm_sides.specs.BothSides.{First, Second};
 ghost use Rattle.mm_sides.specs.BothSides as both;
 ghost use Rattle.mm_sides.specs.Folds as folds;
 ghost use Rattle.mm_transfer.specs.declared.between.IssuedTickets.{IssuedTickets};
-ghost use Rattle.mm_transfer.specs.ActOutcome.{act_reach, ActGoes};
-ghost use Rattle.mm_transfer.specs.SideCommands.{FitsIssuedTickets};
-ghost use Rattle.mm_transfer.specs.Events.{act_of, which_of};
-ghost use Rattle.mm_transfer.specs.OneSide.{FitsSide};
-ghost use Rattle.mm_transfer.specs.OneProof.{fits_prop};
-ghost use Rattle.mm_transfer.specs.Pairs.{pair_of};
+ghost use Rattle.mm_transfer.specs.Events.{act_reach, ActGoes, act_of, which_of};
+ghost use Rattle.mm_transfer.specs.SideCommands.{FitsIssuedTickets, FitsSide, fits_prop, pair_of};
 
 use crate::between::IssuedTickets;
 use crate::commands;
@@ -47,7 +43,7 @@ pub struct Sides {
 }
 
 impl Model for Sides {
-    ghost use Rattle.mm_transfer.specs.Sides.{TransferSides, transfer_sides_in};
+    ghost use Rattle.mm_transfer.specs.Events.{TransferSides, transfer_sides_in};
 
     ghost Value = { TransferSides };
 
@@ -108,9 +104,9 @@ fn act(
 
 impl Sides {
     ghost use Rattle.std.specs.Prelude.{IfOk, OnErr, OnOk};
-    ghost use Rattle.mm_transfer.specs.Events.{side_event_of};
-    ghost use Rattle.mm_transfer.specs.Replies.{move_reply_of, IsSayable};
-    ghost use Rattle.mm_transfer.specs.Sides.{first_transfer_sides, outcome_in, HasRoom, GrowsByOne, TransferSidesLackMemory};
+    ghost use Rattle.mm_transfer.specs.Events.{side_event_of, first_transfer_sides, outcome_in, HasRoom, GrowsByOne};
+    ghost use Rattle.mm_transfer.specs.Events.{TransferSidesLackMemory};
+    ghost use Rattle.mm_transfer.specs.MovePlan.{move_reply_of, IsSayable};
     ghost use Rattle.mm_transfer.specs.Stage.{kept_size_of};
     ghost use Rattle.mm_sides.specs.BothSides.{sides_seen_from};
 

@@ -37,9 +37,9 @@ impl TransferStage {
     ghost use Rattle.std.specs.Prelude.{ℕ, List, Some};
     ghost use Rattle.mm_play.specs.Stage.{EventLacksMemory, StageAnswersEvent, answer_to};
     ghost use Rattle.mm_transfer.specs.Events.{side_event_of};
-    ghost use Rattle.mm_transfer.specs.Grammar.{event_at};
-    ghost use Rattle.mm_transfer.specs.Replies.{move_reply_of, IsSayable};
-    ghost use Rattle.mm_transfer.specs.Stage.{TransferLacksMemory, transfer_after, transfer_steps, first_transfer, both_end_line, transfer_outcome};
+    ghost use Rattle.mm_transfer.specs.Stage.{event_at, TransferLacksMemory, transfer_after, transfer_steps, first_transfer, both_end_line};
+    ghost use Rattle.mm_transfer.specs.Stage.{transfer_outcome};
+    ghost use Rattle.mm_transfer.specs.MovePlan.{move_reply_of, IsSayable};
 
     /// Both sides at their first event.
     pub fn new(alloc: Global, header: &Header) -> Result<TransferStage, Memory>

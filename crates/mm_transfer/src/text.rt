@@ -3,7 +3,7 @@
 ghost use Rattle.std.specs.Prelude.{◌≡◌, IfOk};
 ghost use Rattle.mm_schedule.specs.Events.{meddles_of};
 ghost use Rattle.mm_transfer.specs.Events.{command_of, act_of, side_event_of};
-ghost use Rattle.mm_transfer.specs.Texts as texts;
+ghost use Rattle.mm_transfer.specs.Stage as texts;
 
 use crate::event::{Command, SideAct, SideChoice, SideEvent};
 use crate::nonce::Nonce;

@@ -1,10 +1,9 @@
 //! A transfer, from the first line to the last.
 
 ghost use Rattle.std.specs.Prelude.{◌≡◌, ℕ, List, Some, Ok};
-ghost use Rattle.mm_play.specs.Play.{outcome_of_input};
-ghost use Rattle.mm_play.specs.PlaysInput.{IsBlamed, IsUnrefused, is_read_fault, is_write_fault};
-ghost use Rattle.mm_transfer.specs.TransferPlay.{PlaysTransfer, ReportsTransfer};
-ghost use Rattle.mm_transfer.specs.Stage.{TransferLineStage as Stands, first_transfer_stage, transfer_answer, transfer_closing};
+ghost use Rattle.mm_play.specs.PlaysInput.{outcome_of_input, IsBlamed, IsUnrefused, is_read_fault, is_write_fault};
+ghost use Rattle.mm_transfer.specs.Stage.{PlaysTransfer, ReportsTransfer, TransferLineStage as Stands, first_transfer_stage};
+ghost use Rattle.mm_transfer.specs.Stage.{transfer_answer, transfer_closing};
 
 use crate::opening::FirstLine;
 use crate::report::TransferReport;

@@ -1,5 +1,3 @@
 mod Below
 mod Cells
 mod Writing
-mod Tearing
-mod Steadying

@@ -1,10 +1,18 @@
--- What a read and a write over two cells do to the one cell.
+-- What a read and a write over two cells do to the one cell. With it: steps of a register whose
+-- plan is quiet; a write that fails, of which a part is left.
+use Rattle.std.specs.Prelude.{not}
+use Rattle.std.proofs.lemmas.List.{length-drop}
+use Rattle.mm_platform.specs.Standing.{quiet_plan, next_answer, is_next_made}
 use Rattle.mm_twocell.proofs.Below.{nat_tests, ℕ, ◌≡◌, ◌-◌, ◌*◌, ◌⊎◌, inl, inr, Bool, true, false, List, [], ◌∷◌, ◌++◌, length, get_or}
 use Rattle.mm_twocell.proofs.Below.{Some, refl, sym, ap, ◌∙◌, arith, ◌%◌, ◌==◌, slice_index, option_map, cell_length, Option, None}
 use Rattle.mm_twocell.proofs.Below.{StepFault, Standing, WriteCell, items_beside, cell_after, DeviceStepEnds, bytes_with_part, LeavesRest}
-use Rattle.mm_twocell.proofs.Below.{ReadsRaw, WritesRaw, beside-beside, picked_cell, WritesOtherCell}
+use Rattle.mm_twocell.proofs.Below.{ReadsRaw, WritesRaw, beside-beside, picked_cell, WritesOtherCell, Act, ReadRegister, ResetRegister}
+use Rattle.mm_twocell.proofs.Below.{ExtendRegister, items_after, Plan, fault_by_plan, is_made_by_plan, is_on_by_plan, values_by_plan}
+use Rattle.mm_twocell.proofs.Below.{faults_after, StepGoes, TornMemory, told_standing, whole_bytes, StepsRegister, plan_from_start}
+use Rattle.mm_twocell.proofs.Below.{IsSteady, ◌+◌, ◌≤◌, take, drop, subst, if◌then◌else◌, length-take, length-take-le, next_count}
+use Rattle.mm_twocell.proofs.Below.{CountRose, Failed, range_of, beside-none, IsUsable, will_fail, memory_after_call, memory_with_part}
 use Rattle.mm_twocell.proofs.Cells.{in_three, pair, number, one_item, parity, picks_own, picks_other, put_other, put_selector, selector_of}
-use Rattle.std.specs.Prelude.{not}
+use Rattle.mm_twocell.proofs.Cells.{behind, length-behind, put_behind, length-spliced}
 
 -- how a call ends that went on from a call that was done
 pub ends_with : (fault : Option StepFault) (old two three : Standing) (made any : Bool) → old.is_on ≡ true → two.faults ≡ old.faults
@@ -143,3 +151,128 @@ write_ends {bytes} {selector} {other} {old = old} {one = one} {two = two} {three
           (λ none. ap (λ (w : List ℕ). get_or w 0 0 % 2 == other) (c.whole none) ∙ ap (λ (v : ℕ). v % 2 == other) same
           ∙ other_below selector other r.other_is) c.ends;
     }
+
+-- Steps of a register whose plan is quiet.
+
+-- what such a step does
+record Steadies {act : Act} {old new : Standing} {fault : Option StepFault} (g : StepGoes act old new fault) : Type 0 where
+  made : g.is_made ≡ true
+  others : g.others ≡ []
+  on : new.is_on ≡ true
+
+steadies_by : {act : Act} {old new : Standing} {fault : Option StepFault} (g : StepGoes act old new fault) (told : Option Plan)
+    → old.plan ≡ told → old.is_on ≡ true → option_map plan_from_start told ≡ Some quiet_plan → Steadies g
+steadies_by {act} {old} {new} {fault} g told known on quiet = grind (arith, known, on, quiet)
+
+-- the memory that has this register
+abbrev pub torn_of : List ℕ → ℕ → ℕ → ℕ → List ℕ → Standing → TornMemory
+torn_of bytes cycles faults ahead leaves register = record {
+  standing = record register { cell = Some bytes; cycles = cycles; faults = faults; plan = None };
+  ahead = ahead;
+  leaves = leaves;
+}
+
+module _ (old new : Standing) (fault : Option StepFault) (bytes : List ℕ) (cycles faults ahead : ℕ) (leaves : List ℕ)
+    (steady : IsSteady old) where
+  steps_by : (act : Act) → ((made : Bool) (cell : Option (List ℕ)) → cell_after act made cell ≡ cell) → StepGoes act old new fault
+      → StepsRegister act (torn_of bytes cycles faults ahead leaves old) (torn_of bytes cycles faults ahead leaves new)
+  steps_by act same g =
+      let s = steadies_by g old.plan refl steady.0 steady.1 in
+      let t : Standing = told_standing (torn_of bytes cycles faults ahead leaves old) in
+      let made : is_next_made t ≡ true = ap (λ (o : Bool). is_made_by_plan o quiet_plan) steady.0 in
+      let brings : values_by_plan old.is_on quiet_plan ≡ [] = ap (λ (o : Bool). values_by_plan o quiet_plan) steady.0 in
+      let answers : next_answer t ≡ None = ap (λ (o : Bool). fault_by_plan o quiet_plan) steady.0 in
+      record {
+        stands = record {
+          spare = new.spare;
+          same = λ j. record {
+            cell = sym (same (is_next_made t) (whole_bytes (Some bytes))) j;
+            items = (g.items ∙ ap (λ (m : Bool). items_after act m (items_beside g.others old.items)) (s.made ∙ sym made)
+                ∙ ap (λ (o : List (List ℕ)). items_after act (is_next_made t) (items_beside o old.items)) (s.others ∙ sym brings)) j;
+            is_on = (s.on ∙ sym (ap (λ (o : Bool). is_on_by_plan o quiet_plan) steady.0)) j;
+            steps = g.steps j;
+            writes = g.writes j;
+            cycles = cycles;
+            spare = new.spare;
+            faults = sym (ap (λ (f : Option StepFault). faults_after f faults) answers) j;
+            plan = None;
+          };
+        };
+        ahead = refl;
+        leaves = refl;
+      }
+
+  pub read_steps : StepGoes ReadRegister old new fault
+      → StepsRegister ReadRegister (torn_of bytes cycles faults ahead leaves old) (torn_of bytes cycles faults ahead leaves new)
+  read_steps g = steps_by ReadRegister (λ _ _. refl) g
+
+  pub reset_steps : StepGoes ResetRegister old new fault
+      → StepsRegister ResetRegister (torn_of bytes cycles faults ahead leaves old) (torn_of bytes cycles faults ahead leaves new)
+  reset_steps g = steps_by ResetRegister (λ _ _. refl) g
+
+  pub extend_steps : (value : List ℕ) → StepGoes (ExtendRegister value) old new fault
+      → StepsRegister (ExtendRegister value) (torn_of bytes cycles faults ahead leaves old) (torn_of bytes cycles faults ahead leaves new)
+  extend_steps value g = steps_by (ExtendRegister value) (λ _ _. refl) g
+
+-- A write that fails, of which a part is left.
+
+size_test : (bytes : List ℕ) → length bytes ≡ 209 → (length bytes == 209) ≡ true
+size_test bytes e = grind (arith, nat_tests)
+
+pub whole_is : (bytes : List ℕ) → length bytes ≡ 209 → whole_bytes (Some bytes) ≡ Some bytes
+whole_is bytes e = ap (λ (b : Bool). if b then Some bytes else None) (size_test bytes e)
+
+pub told_is : (it : TornMemory) (r : IsUsable it) → whole_bytes it.standing.cell ≡ Some r.bytes
+told_is it r = ap whole_bytes r.cell ∙ whole_is r.bytes r.size
+
+faults_rose : (it : TornMemory) → will_fail it ≡ true → CountRose it.standing.faults (memory_after_call it).standing.faults
+faults_rose it w =
+    let f : ℕ = it.standing.faults in
+    ap (λ (b : Bool). if b then next_count f else f) w
+
+-- the told bytes once a part was put in place
+told_put : (at : ℕ) (part : List ℕ) (it : TornMemory) (r : IsUsable it) → at + length part ≤ 209
+    → whole_bytes (option_map (bytes_with_part at part) it.standing.cell) ≡ option_map (bytes_with_part at part)
+    (whole_bytes it.standing.cell)
+told_put at part it r h =
+    ap (λ c. whole_bytes (option_map (bytes_with_part at part) c)) r.cell
+    ∙ whole_is (bytes_with_part at part r.bytes) (length-spliced at part r.bytes (omega (arith, h, r.size)) ∙ r.size)
+    ∙ ap (option_map (bytes_with_part at part)) (sym (told_is it r))
+
+part_within : (n : ℕ) (leaves : List ℕ) → length (take n leaves) ≤ n
+part_within n leaves = omega (arith, length-take n leaves)
+
+pub write_fails : (at : ℕ) (bytes : List ℕ) (old mid new : TornMemory) → at + length bytes ≤ 209 → IsUsable old → will_fail old ≡ true
+    → mid ≡ memory_after_call old → new ≡ memory_with_part at (take (length bytes) mid.leaves) mid
+    → WritesRaw at bytes (told_standing old) (told_standing new) (Some Failed)
+write_fails at bytes old mid new h r w e f =
+    let n : ℕ = length bytes in
+    let part : List ℕ = take n old.leaves in
+    let range : List ℕ = range_of at n r.bytes in
+    let within : at + n ≤ length r.bytes = omega (arith, h, r.size) in
+    let size : length range ≡ n = length-take-le n (drop at r.bytes) (omega (arith, length-drop at r.bytes, within)) in
+    let fits : length part ≤ n = part_within n old.leaves in
+    let all : length (behind part range) ≡ n = length-behind part range (omega (arith, size, fits)) ∙ size in
+    let after : new ≡ memory_with_part at part (memory_after_call old) =
+    f ∙ ap (λ (t : TornMemory). memory_with_part at (take n t.leaves) t) e in
+    subst (λ (t : TornMemory). WritesRaw at bytes (told_standing old) (told_standing t) (Some Failed)) (sym after) (record {
+      written = behind part range;
+      size = all;
+      cell = told_put at part old r (omega (arith, h, fits))
+          ∙ ap (option_map (bytes_with_part at part)) (told_is old r)
+          ∙ ap Some (put_behind at n part r.bytes fits within)
+          ∙ ap (option_map (bytes_with_part at (behind part range))) (sym (told_is old r));
+      whole = λ none. absurd (cc);
+      still = λ off. let g : false ≡ true = sym off ∙ r.on in absurd (cc);
+      rest = record {
+        others = [];
+        items = sym (beside-none old.standing.items);
+        steps = refl;
+        writes = refl;
+        cycles = refl;
+        room = omega arith;
+        plan = refl;
+      };
+      is_made = false;
+      ends = record { was_on = r.on; is_on = r.on; faults = faults_rose old w };
+    })

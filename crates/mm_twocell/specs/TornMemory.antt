@@ -1,12 +1,15 @@
--- A memory of 209 bytes, of which one call fails where it is told to.
-use Rattle.std.specs.Prelude.{◌≡◌, ℕ, ◌-◌, ◌==◌, Bool, true, List, [], length, take, replicate, Option, None, Some, if◌then◌else◌}
+-- A memory of 209 bytes, of which one call fails where it is told to. With it: two cells of 104
+-- bytes and a selector, seen as one cell; what is told of a memory's bytes.
 use Rattle.std.specs.Option.{option_map}
-use Rattle.mm_bytes.specs.Faults.{next_count}
-use Rattle.mm_platform.specs.Standing.{Plan, Standing}
-use Rattle.mm_platform.specs.Memory.{new_platform}
-use Rattle.mm_platform.specs.Raw.{bytes_with_part}
-use Rattle.mm_platform.specs.Steps.{Act}
-use Rattle.mm_platform.specs.PlannedSteps.{quiet_plan, standing_after_step, AreAlike}
+use Rattle.std.specs.Prelude.{◌≡◌, ℕ, ◌-◌, ◌==◌, Bool, true, List, [], length, take, replicate, Option, None, Some, if◌then◌else◌, ◌*◌, ◌%◌}
+use Rattle.std.specs.Prelude.{drop, slice_index}
+use Rattle.std.proofs.Common.{arith}
+use Rattle.std.proofs.lemmas.Bool.Decides.{nat_tests}
+use Rattle.mm_bytes.specs.Limits.{next_count, cell_length}
+use Rattle.mm_platform.specs.Memory.{new_platform, bytes_with_part, LeavesRest}
+use Rattle.mm_platform.specs.Standing.{Plan, Standing, Act, quiet_plan, standing_after_step, AreAlike, WriteCell, cell_after}
+use Rattle.mm_platform.specs.Standing.{DeviceStepEnds}
+use Rattle.mm_platform.specs.declared.fault.StepFault.{StepFault}
 
 -- what stands on it, how many calls of the memory or of power there are up to the one that fails
 -- (none at 0), and what that one leaves where it is a write
@@ -88,3 +91,42 @@ plan_from_start plan = record plan { at = 0 }
 abbrev pub IsSteady : Standing → Type 0
 IsSteady register =
     (register.is_on ≡ true) × (option_map plan_from_start register.plan ≡ Some quiet_plan)
+
+-- Two cells of 104 bytes and a selector, seen as one cell.
+
+-- the cell that the last of 209 bytes picks: the first one where it is even, the second where it is
+-- odd
+abbrev pub picked_cell : List ℕ → List ℕ
+picked_cell bytes = take cell_length (drop (cell_length * (slice_index bytes 208 % 2)) bytes)
+
+-- what stands on the platform, by what stands on that of its memory and its own counts of steps and
+-- of writes
+abbrev pub standing_as_one : Standing → ℕ → ℕ → Standing
+standing_as_one raw steps writes =
+    record raw {
+      cell = option_map picked_cell raw.cell;
+      steps = steps;
+      writes = writes;
+      plan =
+          None;
+    }
+
+-- the other cell was written and then picked: the picked cell is the new one, or the old one
+pub record WritesOtherCell (bytes : List ℕ) (old new : Standing) (fault : Option StepFault) : Type 0
+  where
+    pub is_made : Bool
+    pub cell : option_map picked_cell new.cell ≡ cell_after (WriteCell bytes) is_made
+        (option_map picked_cell old.cell)
+    pub rest : LeavesRest old new
+    pub ends : DeviceStepEnds fault old new is_made
+
+-- What is told of a memory's bytes.
+
+whole_size : (cell : Option (List ℕ)) (bytes : List ℕ) → whole_bytes cell ≡ Some bytes
+    → length bytes ≡ 209
+whole_size None bytes e = absurd (cc)
+whole_size (Some all) bytes e = grind (arith, nat_tests, e)
+
+pub told_size : (it : TornMemory) (bytes : List ℕ) → (told_standing it).cell ≡ Some bytes
+    → length bytes ≡ 209
+told_size it bytes e = whole_size it.standing.cell bytes e

@@ -2,8 +2,8 @@
 
 ghost use Rattle.std.specs.Prelude.{◌≡◌, ◌*◌, ◌%◌, ℕ, List, Some, IfOk, OnOk, OnErr, slice_index};
 ghost use Rattle.std.specs.Result.{result_err};
-ghost use Rattle.mm_platform.specs.Raw.{ReadsRaw};
-ghost use Rattle.mm_twocell.specs.Pairs.{standing_as_one, picked_cell, WritesOtherCell};
+ghost use Rattle.mm_platform.specs.Memory.{ReadsRaw};
+ghost use Rattle.mm_twocell.specs.TornMemory.{standing_as_one, picked_cell, WritesOtherCell};
 
 use mm_bytes::{CELL_LENGTH, Memory};
 use mm_digest::Digest;

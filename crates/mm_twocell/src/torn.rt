@@ -2,11 +2,11 @@
 
 ghost use Rattle.std.specs.Prelude.{◌≡◌, ◌↔◌, ◌≤◌, ◌+◌, ◌-◌, ℕ, List, Some, None, IsOk, IsErr, IfOk, OnOk, OnErr, length, take};
 ghost use Rattle.std.specs.Result.{result_err};
-ghost use Rattle.mm_platform.specs.Standing.{Item, register_after, item_values};
-ghost use Rattle.mm_platform.specs.Steps.{PowerCycles, StepGoes, RoomGrows, ReadRegister, ResetRegister, ExtendRegister};
-ghost use Rattle.mm_platform.specs.Raw.{range_of, bytes_with_part, ReadsRaw, WritesRaw};
-ghost use Rattle.mm_twocell.specs.TornMemory.{TornMemory, IsUsable, IsSteady, first_memory, told_standing, will_fail, memory_after_call, memory_after_cycle, memory_with_part, memory_after_write, StepsRegister};
-ghost use Rattle.mm_twocell.specs.Wholes.{told_size};
+ghost use Rattle.mm_platform.specs.Standing.{Item, register_after, item_values, PowerCycles, StepGoes, RoomGrows, ReadRegister};
+ghost use Rattle.mm_platform.specs.Standing.{ResetRegister, ExtendRegister};
+ghost use Rattle.mm_platform.specs.Memory.{range_of, bytes_with_part, ReadsRaw, WritesRaw};
+ghost use Rattle.mm_twocell.specs.TornMemory.{TornMemory, IsUsable, IsSteady, first_memory, told_standing, will_fail, memory_after_call};
+ghost use Rattle.mm_twocell.specs.TornMemory.{memory_after_cycle, memory_with_part, memory_after_write, StepsRegister, told_size};
 
 use mm_bytes::{CELL_LENGTH, Memory};
 use mm_digest::Digest;
@@ -187,7 +187,7 @@ impl Register for MemRaw {
         self.register.reg_ready()
     }
 
-    #[tactic(auto, using(crate::proofs::Steadying::read_steps))]
+    #[tactic(auto, using(crate::proofs::Writing::read_steps))]
     fn reg_read(&mut self) -> Result<Digest, StepFault>
         ensures goes { StepGoes ReadRegister (told_standing self.old) (told_standing self.new)
             (result_err result) }
@@ -200,7 +200,7 @@ impl Register for MemRaw {
         self.register.reg_read()
     }
 
-    #[tactic(auto, using(crate::proofs::Steadying::reset_steps))]
+    #[tactic(auto, using(crate::proofs::Writing::reset_steps))]
     fn reg_reset(&mut self) -> Result<(), StepFault>
         ensures goes { StepGoes ResetRegister (told_standing self.old) (told_standing self.new)
             (result_err result) }
@@ -210,7 +210,7 @@ impl Register for MemRaw {
         self.register.reg_reset()
     }
 
-    #[tactic(auto, using(crate::proofs::Steadying::extend_steps))]
+    #[tactic(auto, using(crate::proofs::Writing::extend_steps))]
     fn reg_extend(&mut self, value: &Digest) -> Result<(), StepFault>
         requires { 1 ≤ (told_standing self.old).spare }
         ensures goes { StepGoes (ExtendRegister value.now.bytes) (told_standing self.old)

@@ -19,15 +19,13 @@ pub use Rattle.mm_bytes.specs.DecimalLaws.{read_by_spelling}
 pub use Rattle.mm_bytes.specs.Limits.{most_events}
 pub use Rattle.mm_digest.specs.declared.variant.Variant.{Variant}
 pub use Rattle.mm_digest.specs.declared.variant.Variant.TheVariants.{Basic, Opt}
-pub use Rattle.mm_module.specs.Values.{value_at}
+pub use Rattle.mm_module.specs.Meaning.{value_at}
 pub use Rattle.mm_modules.specs.Modules.{any_is_found, any_is_listed, module_of_name, name_of}
 pub use Rattle.mm_modules.specs.declared.any.AnyModule.{AnyModule}
-pub use Rattle.mm_schedule.specs.Headers.{variant_text}
-pub use Rattle.mm_schedule.specs.HeadersWords.{variant_at}
+pub use Rattle.mm_schedule.specs.Headers.{variant_text, variant_at}
 pub use Rattle.mm_schedule.specs.declared.header.Header.{Header}
-pub use Rattle.mm_words.specs.App.{the_app}
-pub use Rattle.mm_words.specs.Commands.{AreReceiptsWords, AreWordsOf, generated_words, header_words, IsGenerated, SpellsCommand}
-pub use Rattle.mm_words.specs.Forms.{is_refused, IsMatched}
+pub use Rattle.mm_words.specs.Commands.{the_app, AreReceiptsWords, AreWordsOf, generated_words, header_words, IsGenerated, SpellsCommand}
+pub use Rattle.mm_words.specs.Commands.{is_refused, IsMatched}
 pub use Rattle.mm_words.specs.declared.command.CommandLine.{CommandLine}
 pub use Rattle.mm_words.specs.declared.command.CommandLine.TheVariants.{Bulk, Check, Checkpoint, Gen, Help, Init, Power, Receipts, Replay}
 pub use Rattle.mm_words.specs.declared.command.CommandLine.TheVariants.{Run, Slots, Transfer}

@@ -1,8 +1,4 @@
 pub mod Above
 mod Below
-mod Folded
-mod Kept
-mod Matched
-mod OneCommand
 mod Reading
-mod Taken
+mod Matched

@@ -1,16 +1,90 @@
--- The words of a command are taken, and what is matched is the command's.
-use Rattle.mm_words.proofs.Below.{◌≡◌, ◌≤◌, ◌∙◌, ℕ, true, false, List, [], ◌∷◌, refl, sym, ap, arith, codes, Option, Some, nat_lt}
-use Rattle.mm_words.proofs.Below.{option_map, decimal, option_map_or, nat_tests, subcommand_of, takes, Text, first_of, rows_of}
-use Rattle.mm_words.proofs.Below.{first_value-rows, read_by_spelling, most_events, Variant, Basic, Opt, value_at, AnyModule, module_of_name}
-use Rattle.mm_words.proofs.Below.{name_of, any_is_found, variant_text, variant_at, Header, the_app, IsGenerated, SpellsCommand}
-use Rattle.mm_words.proofs.Below.{generated_words, header_words, IsMatched, CommandLine, Init, Gen, Bulk}
-use Rattle.mm_words.proofs.Below.{Receipts, Help, GeneratedSchedule}
+-- The words of a command are taken, and what is matched is the command's. With it: what `clap`
+-- makes of the words of each form; words spell one command.
 use Rattle.clap.specs.declared.parser.matches.Found.{Found}
 use Rattle.clap.proofs.OnLiterals.{clap_on_literals}
-use Rattle.mm_words.specs.Forms.{command_in, schedule_in, header_in, key_of_words}
-use Rattle.mm_words.proofs.Kept.{key_kept, name_kept, number_kept, plain_word, variant_kept}
-use Rattle.mm_words.proofs.Taken.{AreGeneratedTaken, Given, IsTaken, alone, generated_taken, generating, given_in, init_taken}
-use Rattle.mm_words.proofs.Taken.{receipts_taken, with_header, with_key}
+use Rattle.mm_bytes.specs.Limits.{decimal_number}
+use Rattle.mm_schedule.specs.Headers.{◌>>=◌}
+use Rattle.mm_words.specs.Commands.{command_in, schedule_in, header_in, key_of_words}
+use Rattle.mm_words.proofs.Below.{◌≡◌, true, List, [], ◌∷◌, refl, codes, Option, Some, None, option_map, is_simple, subcommand_of, takes}
+use Rattle.mm_words.proofs.Below.{Row, Text, first_of, the_app, ◌≤◌, ◌∙◌, ℕ, false, sym, ap, arith, nat_lt, decimal, option_map_or}
+use Rattle.mm_words.proofs.Below.{nat_tests, rows_of, first_value-rows, read_by_spelling, most_events, Variant, Basic, Opt, value_at}
+use Rattle.mm_words.proofs.Below.{AnyModule, module_of_name, name_of, any_is_found, variant_text, variant_at, Header, IsGenerated}
+use Rattle.mm_words.proofs.Below.{SpellsCommand, generated_words, header_words, IsMatched, CommandLine, Init, Gen, Bulk, Receipts, Help}
+use Rattle.mm_words.proofs.Below.{GeneratedSchedule, if◌then◌else◌, bytes_eq, Run, Checkpoint, Power, Replay, Check, Slots, Transfer}
+use Rattle.mm_words.proofs.Reading.{IsPlainWord, key_kept, name_kept, number_kept, plain_word, variant_kept}
+
+-- What `clap` makes of the words of each form.
+
+pub is_simple_app : is_simple the_app ≡ true
+unfolding clap_on_literals
+is_simple_app = refl
+
+-- a subcommand's name and the words that it was given
+pub record Given : Type 0 where
+  pub name : Text
+  pub number : Option Text
+  pub count : Option Text
+  pub variant : Option Text
+  pub module_named : Option Text
+  pub key : Option Text
+
+abbrev pub given_in : Text × List Row → Given
+given_in met = record {
+  name = met.0;
+  number = first_of (codes "NUMBER") met.1;
+  count = first_of (codes "COUNT") met.1;
+  variant = first_of (codes "VARIANT") met.1;
+  module_named = first_of (codes "MODULE") met.1;
+  key = first_of (codes "KEY") met.1;
+}
+
+abbrev pub alone : Text → Given
+alone name = record { name = name; number = None; count = None; variant = None; module_named = None; key = None }
+
+abbrev pub with_header : Text → Text → Text → Given
+with_header name v m = record (alone name) { variant = Some v; module_named = Some m }
+
+abbrev pub generating : Text → Text → Text → Text → Text → Given
+generating name n c v m = record (with_header name v m) { number = Some n; count = Some c }
+
+abbrev pub with_key : Text → Text → Given
+with_key name k = record (alone name) { key = Some k }
+
+-- the words are taken, and this is given
+abbrev pub IsTaken : List Text → Given → Type 0
+IsTaken words given = (takes the_app words ≡ true) × (option_map given_in (subcommand_of the_app words) ≡ Some given)
+
+pub init_taken : (v m : Text) → IsPlainWord v → IsPlainWord m → IsTaken (codes "init" ∷ v ∷ m ∷ []) (with_header (codes "init") v m)
+unfolding clap_on_literals
+init_taken v m one two = rw (one.dashes, one.long, one.short, two.dashes, two.long, two.short) (refl, refl)
+
+-- the words of a schedule that is made from a number, behind this name
+abbrev pub AreGeneratedTaken : Text → Text → Text → Text → Text → Type 0
+AreGeneratedTaken n c v m name = IsTaken (name ∷ n ∷ c ∷ v ∷ m ∷ []) (generating name n c v m)
+
+pub generated_taken : (n c v m : Text) → IsPlainWord n → IsPlainWord c → IsPlainWord v → IsPlainWord m
+    → AreGeneratedTaken n c v m (codes "gen") × AreGeneratedTaken n c v m (codes "bulk")
+unfolding clap_on_literals
+generated_taken n c v m one two three four = rw (
+  one.dashes,
+  one.long,
+  one.short,
+  two.dashes,
+  two.long,
+  two.short,
+  three.dashes,
+  three.long,
+  three.short,
+  four.dashes,
+  four.long,
+  four.short,
+) ((refl, refl), (refl, refl))
+
+pub receipts_taken : (k : Text) → IsPlainWord k → IsTaken (codes "receipts" ∷ k ∷ []) (with_key (codes "receipts") k)
+unfolding clap_on_literals
+receipts_taken k one = rw (one.dashes, one.long, one.short) (refl, refl)
+
+-- The words of a command are taken, and what is matched is the command's.
 
 pub variant-read : (variant : Variant) → variant_at (variant_text variant) ≡ Some variant
 variant-read Basic = refl
@@ -149,3 +223,60 @@ pub is_matched : (command : CommandLine) (words : List (List ℕ)) (name : Text)
 is_matched command words name found spells matched is =
     let it = brings command words spells matched in
     it.matched name found (same_given (given_by name found) it.given (sym (ap (option_map given_in) is) ∙ it.is.1))
+
+-- Words spell one command.
+
+abbrev header_by : List ℕ → List ℕ → Option Header
+header_by v m = variant_at v >>= λ variant. module_of_name m >>= λ module_read. Some (record { variant = variant; «module» = module_read })
+
+abbrev generated_by : List ℕ → List ℕ → List ℕ → List ℕ → Option GeneratedSchedule
+generated_by n c v m =
+    decimal_number n >>= λ number. decimal_number c >>= λ count. header_by v m >>= λ header.
+    Some (record { number = number; count = count; header = header })
+
+abbrev alone_by : List ℕ → CommandLine
+alone_by word =
+    if bytes_eq word (codes "run") then Run
+    else if bytes_eq word (codes "checkpoint") then Checkpoint
+    else if bytes_eq word (codes "power") then Power
+    else if bytes_eq word (codes "replay") then Replay
+    else if bytes_eq word (codes "check") then Check
+    else if bytes_eq word (codes "slots") then Slots
+    else if bytes_eq word (codes "transfer") then Transfer
+    else Help
+
+-- the command of words that spell one
+abbrev command_by : List (List ℕ) → Option CommandLine
+command_by [] = None
+command_by (w ∷ []) = Some (alone_by w)
+command_by (w ∷ k ∷ []) = value_at k >>= λ key. Some (Receipts key)
+command_by (w ∷ v ∷ m ∷ []) = header_by v m >>= λ header. Some (Init header)
+command_by (w ∷ n ∷ c ∷ v ∷ []) = None
+command_by (w ∷ n ∷ c ∷ v ∷ m ∷ rest) =
+    if bytes_eq w (codes "gen") then (generated_by n c v m >>= λ it. Some (Gen it)) else (generated_by n c v m >>= λ it. Some (Bulk it))
+
+header-again : (header : Header) → header_by (variant_text header.variant) (name_of header.module) ≡ Some header
+header-again header = rw (variant-read header.variant, name-read header.module) refl
+
+generated-again : (it : GeneratedSchedule) → IsGenerated it
+    → generated_by (decimal it.number) (decimal it.count) (variant_text it.header.variant) (name_of it.header.module) ≡ Some it
+generated-again it allowed =
+    let few : it.count ≤ most_events = allowed.count in
+    rw (
+      read_by_spelling (decimal it.number) it.number allowed.number refl,
+      read_by_spelling (decimal it.count) it.count (omega arith) refl,
+      header-again it.header,
+    ) refl
+
+command-again : (command : CommandLine) (words : List (List ℕ)) → SpellsCommand command words → command_by words ≡ Some command
+command-again (Init header) words spells = ap command_by spells.spelled ∙ rw (header-again header) refl
+command-again (Gen it) words spells = ap command_by spells.spelled ∙ rw (generated-again it spells.allowed) refl
+command-again (Bulk it) words spells = ap command_by spells.spelled ∙ rw (generated-again it spells.allowed) refl
+command-again (Receipts key) words spells = let given = spells.spelled in ap command_by given.2 ∙ rw given.1 refl
+command-again command words spells = ap command_by spells.spelled
+
+pub one_command : (words : List (List ℕ)) (command other : CommandLine) → SpellsCommand command words → SpellsCommand other words
+    → command ≡ other
+one_command words command other one two =
+    ap (λ (o : Option CommandLine). option_map_or (λ (it : CommandLine). it) o command)
+    (sym (command-again command words one) ∙ command-again other words two)

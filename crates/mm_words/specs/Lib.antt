@@ -1,3 +1,1 @@
-pub mod App
 pub mod Commands
-pub mod Forms

@@ -2,7 +2,7 @@
 
 ghost use Rattle.std.specs.Prelude.{◌≡◌, false, IfOk};
 ghost use Rattle.clap.specs.Words.{app_of, rule_of};
-ghost use Rattle.mm_words.specs.App.{IsForm, form_app, has_globals, the_app, top_app, wanted_rule, with_forms};
+ghost use Rattle.mm_words.specs.Commands.{IsForm, form_app, has_globals, the_app, top_app, wanted_rule, with_forms};
 
 use clap::{Arg, ArgAction, Command};
 use std::alloc::{AllocError, Global};

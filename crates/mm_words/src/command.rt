@@ -4,7 +4,7 @@ ghost use Rattle.std.specs.Prelude.{◌≡◌, ◌↔◌, [], ◌∷◌, IsTrue,
 ghost use Rattle.std.specs.Cmp.Lexicographic.{pointwise};
 ghost use Rattle.std.specs.Fmt.{decimal};
 ghost use Rattle.std.specs.Str.{bytes_eq};
-ghost use Rattle.mm_module.specs.Values.{value_at};
+ghost use Rattle.mm_module.specs.Meaning.{value_at};
 ghost use Rattle.mm_words.specs.Commands.{AreReceiptsWords, AreWordsOf, generated_words, header_words};
 
 use itoa::Buffer;

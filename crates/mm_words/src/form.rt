@@ -3,8 +3,7 @@
 ghost use Rattle.std.specs.Prelude.{◌≡◌, ◌≤◌, IfSome};
 ghost use Rattle.clap.specs.Words.{found_of};
 ghost use Rattle.mm_bytes.specs.Limits.{most_events};
-ghost use Rattle.mm_words.specs.Commands.{IsInBounds, IsGenerated};
-ghost use Rattle.mm_words.specs.Forms.{command_in, count_at, schedule_in, header_in, key_of_words};
+ghost use Rattle.mm_words.specs.Commands.{IsInBounds, IsGenerated, command_in, count_at, schedule_in, header_in, key_of_words};
 
 use crate::command::{CommandLine, GeneratedSchedule};
 use clap::ArgMatches;
@@ -14,7 +13,7 @@ use mm_modules::by_name;
 use mm_schedule::{Header, read_variant};
 
 /// The command of a subcommand with this name and these matches.
-#[tactic(auto, unfolding(crate::specs::Forms::command_in))]
+#[tactic(auto, unfolding(crate::specs::Commands::command_in))]
 pub fn command_in(name: &str, matches: &ArgMatches<'_>) -> Option<CommandLine>
     ensures allowed { IfSome result IsInBounds }
     ensures matched { result ≡ command_in name.now (found_of matches.now) }
@@ -48,7 +47,7 @@ pub fn command_in(name: &str, matches: &ArgMatches<'_>) -> Option<CommandLine>
 }
 
 /// A generated schedule's words, None where one of them is not what it has to be.
-#[tactic(auto, unfolding(crate::specs::Forms::schedule_in))]
+#[tactic(auto, unfolding(crate::specs::Commands::schedule_in))]
 fn generated_in(matches: &ArgMatches<'_>) -> Option<GeneratedSchedule>
     ensures allowed { IfSome result IsGenerated }
     ensures matched { result ≡ schedule_in (found_of matches.now) }
@@ -66,7 +65,7 @@ fn generated_in(matches: &ArgMatches<'_>) -> Option<GeneratedSchedule>
 }
 
 /// The words of a variant and a module, None where one of them is not what it has to be.
-#[tactic(auto, unfolding(crate::specs::Forms::header_in))]
+#[tactic(auto, unfolding(crate::specs::Commands::header_in))]
 fn header_in(matches: &ArgMatches<'_>) -> Option<Header>
     ensures { result ≡ header_in (found_of matches.now) }
 {
@@ -78,7 +77,7 @@ fn header_in(matches: &ArgMatches<'_>) -> Option<Header>
 }
 
 /// The key of a word, None where the word is not 64 hexadecimal digits.
-#[tactic(auto, unfolding(crate::specs::Forms::key_of_words))]
+#[tactic(auto, unfolding(crate::specs::Commands::key_of_words))]
 fn key_in(matches: &ArgMatches<'_>) -> Option<[u8; 32]>
     ensures { result ≡ key_of_words (found_of matches.now) }
 {

@@ -3,8 +3,7 @@
 ghost use Rattle.std.specs.Prelude.{◌≡◌, Err, IfOk, map};
 ghost use Rattle.std.specs.List.{list_any};
 ghost use Rattle.clap.specs.Words.{kind_of};
-ghost use Rattle.mm_words.specs.Commands.{IsInBounds, SpellsCommand};
-ghost use Rattle.mm_words.specs.Forms.{GetsCommand, IsMatched, is_refused};
+ghost use Rattle.mm_words.specs.Commands.{IsInBounds, SpellsCommand, GetsCommand, IsMatched, is_refused};
 ghost use Rattle.mm_words.specs.declared.command.CommandLine.{CommandLine as Told};
 ghost use Rattle.mm_words.specs.declared.fault.WordsFault.TheVariants as fault;
 

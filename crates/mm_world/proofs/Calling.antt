@@ -14,17 +14,16 @@ use Rattle.mm_world.proofs.Below.{fault_at, is_made_at, Foreign, Close, Reads, W
 use Rattle.mm_world.proofs.Below.{checkpoint_result, CheckpointGoesBy, IsCheckpointOnCourse, StepsWalk, walk_from_step, has_close, end_of}
 use Rattle.mm_world.proofs.Below.{made_move, closes-foreign, closes_first, checkpoint_none, closing_reply, moves_after_checkpoint}
 use Rattle.mm_world.proofs.Below.{checkpoint_event_outcome, stopped_reply}
-use Rattle.mm_world.proofs.ClosedAt.{closes_at}
+use Rattle.mm_world.proofs.Seating.{closes_at}
 use Rattle.mm_world.proofs.Below.{checkpoint_reply, has_closing_fault, ChecksOwnCell, quiet_call, register_of_items}
 use Rattle.std.specs.Prelude.{◌⊎◌}
-use Rattle.mm_module.specs.BatchLaws.{members_of-normal}
-use Rattle.mm_outcome.specs.Folds.{ask_event_outcome}
-use Rattle.mm_call.specs.CallOnCourse.{CallGoesBy}
+use Rattle.mm_module.specs.RunLaws.{members_of-normal}
+use Rattle.mm_outcome.specs.Premises.{ask_event_outcome}
+use Rattle.mm_call.specs.CallKind.{CallGoesBy}
 use Rattle.mm_world.proofs.Asking.{committed_by, counted_end, stopped_at, breaks_at, refuses, same, lacks_or_same, refused_read, told_ok}
 use Rattle.mm_world.proofs.Asking.{told_err, breaks, stands_settled, on_settled, Tells, came_register, power_if, power_count, moves_power}
 use Rattle.mm_world.proofs.Asking.{reads_shown, count_none, stop_power}
-use Rattle.mm_call.specs.Checkpoints.{checkpoint_ending, checkpoint_outcome}
-use Rattle.mm_call.specs.CheckpointsWords.{checkpoint_ending_by}
+use Rattle.mm_call.specs.Checkpoints.{checkpoint_ending, checkpoint_outcome, checkpoint_ending_by}
 use Rattle.mm_model.specs.declared.refusal.Refusal.TheVariants as refusal
 use Rattle.mm_schedule.specs.declared.reply.Reply.TheVariants as reply
 use Rattle.mm_schedule.specs.declared.reply.Cause.TheVariants as cause

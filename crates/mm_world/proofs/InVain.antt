@@ -13,35 +13,31 @@ use Rattle.mm_world.proofs.Below.{takes_effect, size_if, is_cut, IsCallResult, S
 use Rattle.mm_world.proofs.Below.{refusal_of_fault, CallComesInVain, AsksInVain, ChecksInVain, AsksPlanned, ChecksPlanned, planned_ask, items_beside}
 use Rattle.mm_world.proofs.Below.{register_of_items, reads_beside, foreign_made}
 use Rattle.mm_seal.specs.CellLaws.{reads_cell-same}
-use Rattle.mm_call.specs.CallKind.{IsCallToEnd, EndsByFinding}
-use Rattle.mm_opt.specs.Checkpoints.{closing_fault_in}
-use Rattle.mm_call.specs.Refusals.{fault_in}
-use Rattle.mm_opt.specs.CellSight.{cell_in, own_cell, is_opt, SeesCell}
+use Rattle.mm_call.specs.CallKind.{IsCallToEnd, EndsByFinding, end_of_machine}
+use Rattle.mm_opt.specs.Checkpoints.{closing_fault_in, ClosesSegment, closing_operation as closing_asked, result_of_end}
+use Rattle.mm_call.specs.CallFinding.{fault_in}
+use Rattle.mm_opt.specs.AskPromise.{cell_in, own_cell, is_opt, SeesCell}
 use Rattle.mm_opt.specs.declared.segment.Segment.{Segment}
-use Rattle.mm_platform.specs.StandingWords.{due_values}
-use Rattle.mm_opt.specs.Checkpoints.{ClosesSegment}
-use Rattle.mm_opt.specs.CheckpointOnCourse.{IsCheckpointOnCourse}
-use Rattle.mm_opt.specs.ClosingOperation.{closing_operation as closing_asked, result_of_end}
+use Rattle.mm_platform.specs.Standing.{due_values}
+use Rattle.mm_opt.specs.CheckpointPromise.{IsCheckpointOnCourse}
 use Rattle.mm_world.proofs.Asking.{stopped_at, settled_reads, stop_power, on_settled, power_if}
 use Rattle.mm_world.proofs.Calling.{asks_as}
-use Rattle.mm_world.proofs.ClosedAt.{closes_at}
-use Rattle.mm_world.specs.Calls.{has_closed_segment}
-use Rattle.mm_machine.specs.OpEnds.{OpEnds}
+use Rattle.mm_world.proofs.Seating.{closes_at}
+use Rattle.mm_world.specs.Calls.{has_closed_segment, IsPlanned, WasPlanned, TellsAsk, TellsCheckpoint}
+use Rattle.mm_machine.specs.OpSteps.{OpEnds}
 use Rattle.mm_machine.specs.declared.call.OpResult.{OpResult as End}
 use Rattle.mm_machine.specs.declared.call.OpStage.TheVariants.{Begun}
 use Rattle.mm_model.specs.declared.answer.BatchAnswer.{BatchAnswer}
-use Rattle.mm_call.specs.Machine.{end_of_machine}
-use Rattle.mm_ask.specs.Operating.{ask_operation}
+use Rattle.mm_ask.specs.WholeAsk.{ask_operation}
 use Rattle.mm_ask.proofs.Above.{calls_by}
-use Rattle.mm_world.specs.PlannedCall.{IsPlanned, WasPlanned, TellsAsk, TellsCheckpoint}
-use Rattle.mm_world.proofs.OnPlan.{asks_broken, closes_broken, closes_came, closes_told}
+use Rattle.mm_world.proofs.Worlds.{asks_broken, closes_broken, closes_came, closes_told}
 use Rattle.mm_model.specs.declared.refusal.Refusal.TheVariants as refusal
 use Rattle.mm_basic.specs.BasicSight as seen
-use Rattle.mm_basic.specs.BasicCall as basic_asks
-use Rattle.mm_basic.specs.Answers as basic_answers
+use Rattle.mm_basic.specs.AskPromise as basic_asks
+use Rattle.mm_basic.specs.Operation as basic_answers
 use Rattle.mm_basic.proofs.Above as in_basic
-use Rattle.mm_opt.specs.OptCall as opt_asks
-use Rattle.mm_opt.specs.BatchFinding.{BatchFinding}
+use Rattle.mm_opt.specs.AskPromise as opt_asks
+use Rattle.mm_opt.specs.Answers.{BatchFinding}
 use Rattle.mm_opt.proofs.Above as in_opt
 use Rattle.mm_opt.specs.declared.segment.CheckpointRefusal.TheVariants as closing
 use Rattle.mm_schedule.specs.declared.reply.Cause.TheVariants as cause

@@ -1,9 +1,7 @@
 pub mod Above
 mod Below
 mod Asking
-mod ClosedAt
-mod Calling
-mod OnPlan
 mod Seating
+mod Calling
 mod Worlds
 mod InVain

@@ -1,9 +1,4 @@
 pub mod WorldStanding
 pub mod Calls
 pub mod Lengths
-pub mod Views
-pub mod HeldWorld
-pub mod OwnCalls
-pub mod VainCalls
-pub mod PlannedCall
 pub mod Seat

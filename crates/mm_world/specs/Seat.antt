@@ -7,26 +7,23 @@ use Rattle.mm_seal.specs.Cell.{cell_spelling}
 use Rattle.mm_seal.specs.declared.cell.Cell.{Cell}
 use Rattle.mm_seal.specs.declared.cell.CellFault.{CellFault}
 use Rattle.mm_platform.specs.Memory.{new_platform}
-use Rattle.mm_platform.specs.Standing.{Standing}
-use Rattle.mm_platform.specs.Steps.{items_beside}
+use Rattle.mm_platform.specs.Standing.{Standing, items_beside}
 use Rattle.mm_modules.specs.Modules.{meaning_of}
 use Rattle.mm_model.specs.History.{first_history}
-use Rattle.mm_model.specs.Instance.{Instance}
+use Rattle.mm_model.specs.Chains.{Instance}
 use Rattle.mm_model.specs.Moves.{Digests}
 use Rattle.mm_model.specs.Standing.{cell_of, issued_bytes, register_reading}
 use Rattle.mm_model.specs.declared.refusal.Refusal.{Refusal}
-use Rattle.mm_call.specs.Levels.{digest_level}
+use Rattle.mm_call.specs.CallFinding.{digest_level}
 use Rattle.mm_call.specs.Standing.{instance_by, count_after_more}
 use Rattle.mm_schedule.specs.Events.{Event, Ask, Checkpoint, Power}
 use Rattle.mm_schedule.specs.declared.header.Header.{Header}
 use Rattle.mm_schedule.specs.declared.reply.Reply.{Reply}
-use Rattle.mm_outcome.specs.Folds.{Outcome, event_outcome, vain_event_outcome}
+use Rattle.mm_outcome.specs.Premises.{Outcome, event_outcome, vain_event_outcome}
 use Rattle.mm_world.specs.declared.call.CallReport.{CallReport}
 use Rattle.mm_world.specs.declared.seat.Seat.{Seat}
-use Rattle.mm_world.specs.OwnCalls.{CallLacksMemory}
-use Rattle.mm_world.specs.VainCalls.{IsRead, refusal_of_fault, vain_refusal}
+use Rattle.mm_world.specs.WorldStanding.{CallLacksMemory, IsRead, refusal_of_fault, vain_refusal, HasDigests, IsQuiet}
 use Rattle.mm_world.specs.Lengths.{length_if, within_64}
-use Rattle.mm_world.specs.WorldStanding.{HasDigests, IsQuiet}
 
 -- the instance of a header's variant and module that has this key and barrier
 abbrev pub instance_at : Header → (key barrier : List ℕ) → Instance

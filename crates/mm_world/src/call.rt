@@ -5,11 +5,10 @@ ghost use Rattle.mm_module.specs.Batches.{batch_of};
 ghost use Rattle.mm_module.specs.Meaning.{Meaning};
 ghost use Rattle.mm_digest.specs.declared.variant.Variant.{Variant};
 ghost use Rattle.mm_outcome.specs.EventOffers.{offered_bytes};
-ghost use Rattle.mm_world.specs.OwnCalls.{planned_ask};
-ghost use Rattle.mm_world.specs.VainCalls.{AsksPlanned, ChecksPlanned};
-ghost use Rattle.mm_world.specs.Calls.{refused_call, answered_call, broken_call, takes_effect, IsCallResult, PowerComesBack, SettlesPlan, has_closed_segment, checkpoint_reply};
-ghost use Rattle.mm_world.specs.PlannedCall.{IsPlanned, TellsCheckpoint};
-ghost use Rattle.mm_opt.specs.ClosingOperation.{closing_operation};
+ghost use Rattle.mm_world.specs.WorldStanding.{planned_ask, AsksPlanned, ChecksPlanned};
+ghost use Rattle.mm_world.specs.Calls.{refused_call, answered_call, broken_call, takes_effect, IsCallResult, PowerComesBack, SettlesPlan};
+ghost use Rattle.mm_world.specs.Calls.{has_closed_segment, checkpoint_reply, IsPlanned, TellsCheckpoint};
+ghost use Rattle.mm_opt.specs.Checkpoints.{closing_operation};
 
 use crate::planning::planned;
 use mm_ask::{Ask, Caller};
@@ -37,7 +36,7 @@ pub struct CallReport {
 
 impl CallReport {
     ghost use Rattle.std.specs.Prelude.{◌≡◌};
-    ghost use Rattle.mm_world.specs.OwnCalls.{quiet_call};
+    ghost use Rattle.mm_world.specs.WorldStanding.{quiet_call};
     ghost use Rattle.mm_world.specs.Calls.{refused_call, answered_call, broken_call};
 
     fn refused(cause: Cause) -> CallReport

@@ -1,7 +1,7 @@
 //! The secrets of each world in memory.
 
 ghost use Rattle.std.specs.Prelude.{◌≡◌};
-ghost use Rattle.mm_outcome.specs.WorldState.{world_barrier, world_key};
+ghost use Rattle.mm_outcome.specs.OneRun.{world_barrier, world_key};
 
 use mm_ask::Secrets;
 use mm_outcome::{world_barrier, world_key};

@@ -1,9 +1,8 @@
 //! A whole call under a plan, whatever it asks.
 
 ghost use Rattle.std.specs.Prelude.{◌≡◌};
-ghost use Rattle.mm_flight.specs.Machine.{is_broken};
-ghost use Rattle.mm_world.specs.Calls.{SettlesPlan};
-ghost use Rattle.mm_world.specs.PlannedCall.{IsPlanned};
+ghost use Rattle.mm_flight.specs.Flight.{is_broken};
+ghost use Rattle.mm_world.specs.Calls.{SettlesPlan, IsPlanned};
 
 use crate::call::{CallReport, came_to, closes, settle, told_closing};
 use mm_ask::Ask;
@@ -46,7 +45,7 @@ pub trait CallTeller: Operation {
 
 impl<M: Module> CallTeller for Ask<'_, M> {
     ghost use Rattle.mm_module.specs.Batches.{batch_of};
-    ghost use Rattle.mm_world.specs.PlannedCall.{TellsAsk, told_ok};
+    ghost use Rattle.mm_world.specs.Calls.{TellsAsk, told_ok};
 
     ghost tells = { λ ask. TellsAsk (batch_of ask.batch) };
 
@@ -61,7 +60,7 @@ impl<M: Module> CallTeller for Ask<'_, M> {
 }
 
 impl CallTeller for OptCheckpoint {
-    ghost use Rattle.mm_world.specs.PlannedCall.{TellsCheckpoint, told_ok};
+    ghost use Rattle.mm_world.specs.Calls.{TellsCheckpoint, told_ok};
 
     ghost tells = { λ close. TellsCheckpoint };
 

@@ -38,7 +38,7 @@ impl Seat {
     ghost use Rattle.mm_platform.specs.Memory.{standing_after_cycle};
     ghost use Rattle.mm_schedule.specs.Events.{Ask, Checkpoint};
     ghost use Rattle.mm_world.specs.Seat.{IsBare, IsOver, IsFirst, SeatKeeps, EndsCall, SeatStaysOn, SeatTakesEvent, extended_standing};
-    ghost use Rattle.mm_world.specs.Views.{event_of_view, offer_of_view};
+    ghost use Rattle.mm_world.specs.Lengths.{event_of_view, offer_of_view};
 
     /// A seat over a new platform with this cell, on which nothing was issued.
     pub fn bare(alloc: Global, header: Header, cell: &[u8; CELL_LENGTH]) -> Seat

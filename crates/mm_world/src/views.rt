@@ -1,9 +1,8 @@
 //! Events where they lie: with bytes of their own, or in a line.
 
 ghost use Rattle.std.specs.Prelude.{◌≡◌};
-ghost use Rattle.mm_schedule.specs.Events.{event_of, meddles_of};
-ghost use Rattle.mm_schedule.specs.Texts.{event_in};
-ghost use Rattle.mm_world.specs.Views.{event_of_view};
+ghost use Rattle.mm_schedule.specs.Events.{event_of, meddles_of, event_in};
+ghost use Rattle.mm_world.specs.Lengths.{event_of_view};
 
 use mm_digest::Digest;
 use mm_module::Batch;

@@ -17,8 +17,8 @@ pub struct World {
 }
 
 impl Model for World {
-    ghost use Rattle.mm_outcome.specs.WorldState.{WorldState};
-    ghost use Rattle.mm_world.specs.HeldWorld.{world_in, KeepsWorld};
+    ghost use Rattle.mm_outcome.specs.OneRun.{WorldState};
+    ghost use Rattle.mm_world.specs.WorldStanding.{world_in, KeepsWorld};
 
     ghost Value = { WorldState };
 
@@ -32,12 +32,11 @@ impl World {
     ghost use Rattle.std.specs.List.{sum_by};
     ghost use Rattle.mm_bytes.specs.Limits.{most_members};
     ghost use Rattle.mm_schedule.specs.Events.{event_of, meddles_of};
-    ghost use Rattle.mm_schedule.specs.Texts as texts;
+    ghost use Rattle.mm_schedule.specs.Events as texts;
     ghost use Rattle.mm_schedule.specs.Replies.{IsPrintable};
-    ghost use Rattle.mm_outcome.specs.WorldState.{first_world_state, outcome_in, WorldFollows, WorldLacksMemory};
-    ghost use Rattle.mm_world.specs.HeldWorld.{HoldsWorld};
-    ghost use Rattle.mm_world.specs.Lengths.{within_64};
-    ghost use Rattle.mm_world.specs.Views.{event_of_view};
+    ghost use Rattle.mm_outcome.specs.OneRun.{first_world_state, outcome_in, WorldFollows, WorldLacksMemory};
+    ghost use Rattle.mm_world.specs.WorldStanding.{HoldsWorld};
+    ghost use Rattle.mm_world.specs.Lengths.{within_64, event_of_view};
 
     /// A new world: the platform is provisioned for the header's module, and its first snapshot has
     /// number 0.

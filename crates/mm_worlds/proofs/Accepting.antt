@@ -6,7 +6,7 @@ use Rattle.std.proofs.Common.{◌≡◌, ◌∙◌, ◌++◌, ℕ, Bool, true, f
 use Rattle.std.proofs.lemmas.List.{append-nil}
 use Rattle.mm_digest.specs.declared.variant.Variant.{Variant}
 use Rattle.mm_seal.specs.Cell.{cell_spelling}
-use Rattle.mm_seal.specs.SealLaws.{sealed_once}
+use Rattle.mm_seal.specs.FieldLaws.{sealed_once}
 use Rattle.mm_seal.specs.Snapshot.{Content, sealed_snapshot_of}
 use Rattle.mm_seal.specs.declared.cell.Cell.{Cell}
 use Rattle.mm_platform.specs.Standing.{Standing}
@@ -14,12 +14,10 @@ use Rattle.mm_module.specs.Batch.{Batch}
 use Rattle.mm_module.specs.Meaning.{Meaning}
 use Rattle.mm_model.specs.History.{History, RegisterEntry, requests_of}
 use Rattle.mm_model.specs.ListLaws.{each_append}
-use Rattle.mm_model.specs.Places.{NamesPosition}
-use Rattle.mm_model.specs.Standing.{RegisterStands, cell_of, flag_of}
+use Rattle.mm_model.specs.Standing.{NamesPosition, RegisterStands, cell_of, flag_of}
 use Rattle.mm_call.specs.CallPremises.{IsWithin}
 use Rattle.mm_call.proofs.Above.{each_at}
-use Rattle.mm_move.specs.Cells.{moved_cell_of}
-use Rattle.mm_move.specs.Moves.{MovePromise}
+use Rattle.mm_move.specs.Cells.{moved_cell_of, MovePromise}
 use Rattle.mm_move.specs.Orders.{acceptance_again_by, acceptance_by, acceptance_in, acceptance_of, is_barred, is_other, live_cell_from, right_ticket}
 use Rattle.mm_move.specs.Tickets.{TicketContent, summary_in}
 use Rattle.mm_move.specs.declared.accepting.Accepted.{Accepted}
@@ -32,20 +30,15 @@ use Rattle.mm_move.specs.declared.refusal.MoveRefusal.{MoveRefusal}
 use Rattle.mm_move.proofs.Above.{bytes_tell}
 use Rattle.mm_life.specs.Deeds.{LifeCall}
 use Rattle.mm_life.specs.Stages.{LifePart}
-use Rattle.mm_worlds.specs.Handed.{Handed, accepted_snapshots}
-use Rattle.mm_worlds.specs.Platforms.{key_of}
-use Rattle.mm_worlds.proofs.Between.{changed_at}
-use Rattle.mm_worlds.proofs.Cells.{IsAwaited, reading_of}
-use Rattle.mm_worlds.proofs.Outcomes.{MoveOutcome, made, move_comes, refused, repeated}
+use Rattle.mm_worlds.specs.Premises.{Handed, accepted_snapshots, key_of}
+use Rattle.mm_worlds.proofs.Between.{changed_at, IsAwaited, reading_of, IsGoodPaper, IsGoodTicket, IsInOrder, IsKeyedGenuine, LeftFor}
+use Rattle.mm_worlds.proofs.Between.{anchor_at, instance_at, papers_on, HoldsCell, HoldsOwn, IsOwnCell}
+use Rattle.mm_worlds.proofs.Moving.{MoveOutcome, made, move_comes, refused, repeated}
 use Rattle.mm_worlds.proofs.Beside.{IsBeside, move_beside}
-use Rattle.mm_worlds.proofs.Between.{IsGoodPaper, IsGoodTicket, IsInOrder, IsKeyedGenuine, LeftFor, anchor_at, instance_at, papers_on}
-use Rattle.mm_worlds.proofs.Cells.{HoldsCell, HoldsOwn, IsOwnCell}
-use Rattle.mm_worlds.proofs.Kept.{StandsInOrder, given_snapshots}
+use Rattle.mm_worlds.proofs.Orders.{StandsInOrder, given_snapshots, arrived, order_arrived}
 use Rattle.mm_worlds.proofs.Living.{IsQuietHere, Stepped, WorldLaws, all_named, is_here, kept_quiet}
 use Rattle.mm_worlds.proofs.Names.{digest_at, fits_shut, flag_shut, names_cross, names_end, names_key, shut_by}
-use Rattle.mm_worlds.proofs.Orders.{arrived, order_arrived}
-use Rattle.mm_worlds.proofs.Papers.{anchor_sized, at_anchor, ticket_formed}
-use Rattle.mm_worlds.proofs.Papers.{not_false, passes}
+use Rattle.mm_worlds.proofs.Retiring.{anchor_sized, at_anchor, ticket_formed, not_false, passes}
 
 neither : (a b : Bool) → (a || b) ≡ false → (a ≡ false) × (b ≡ false)
 neither true b e = absurd (cc)

@@ -8,8 +8,7 @@ use Rattle.mm_platform.specs.Standing.{Standing}
 use Rattle.mm_module.specs.Batch.{Batch}
 use Rattle.mm_module.specs.Meaning.{Meaning}
 use Rattle.mm_model.specs.History.{History, requests_of}
-use Rattle.mm_model.specs.Instance.{Instance}
-use Rattle.mm_model.specs.InstanceWords.{instance_by}
+use Rattle.mm_model.specs.Chains.{Instance, instance_by}
 use Rattle.mm_model.specs.Standing.{IsGenuine, RegisterStands, StandsFor, cell_of}
 use Rattle.mm_call.proofs.Above.{each_at}
 use Rattle.mm_life.specs.Deeds.{LifeCall}
@@ -18,15 +17,13 @@ use Rattle.mm_life.specs.Premises.{IsUntagged}
 use Rattle.mm_move.specs.declared.cell.MovedCell.{MovedCell}
 use Rattle.mm_move.specs.declared.cell.MovedCell.TheVariants as moved
 use Rattle.mm_move.specs.declared.link.Link.{Link}
-use Rattle.mm_sides.specs.Roles.{Live, Role}
-use Rattle.mm_worlds.specs.Handed.{Handed, snapshots_under}
+use Rattle.mm_sides.specs.BothSides.{Live, Role}
+use Rattle.mm_worlds.specs.Premises.{Handed, snapshots_under, key_of, role_of, nonces_in, offers_to, snapshots_in, tickets_in, World}
+use Rattle.mm_worlds.specs.Premises.{WorldPart, WorldPartLeads}
 use Rattle.mm_worlds.specs.OneWorld.{IsSomewhere, WorldPartSteps, lives, travels}
-use Rattle.mm_worlds.specs.Platforms.{key_of, role_of}
-use Rattle.mm_worlds.specs.Premises.{nonces_in, offers_to, snapshots_in, tickets_in}
-use Rattle.mm_worlds.specs.Worlds.{World, WorldPart, WorldPartLeads}
 use Rattle.mm_worlds.proofs.Between.{Cells, HasLeft, IsInOrder, LeftFor, changed_at, each_changed, from_changed, here_changed, instance_at}
-use Rattle.mm_worlds.proofs.Cells.{HoldsCell, HoldsOwn, IsAwaited, IsLiveCell, key_held, live_role, role_held}
-use Rattle.mm_worlds.proofs.Kept.{StandsInOrder}
+use Rattle.mm_worlds.proofs.Between.{HoldsCell, HoldsOwn, IsAwaited, IsLiveCell, key_held, live_role, role_held}
+use Rattle.mm_worlds.proofs.Orders.{StandsInOrder}
 use Rattle.mm_worlds.proofs.Living.{Stepped, WorldLaws, under_genuine}
 use Rattle.mm_worlds.proofs.Retiring.{IsOrWas}
 

@@ -1,8 +1,10 @@
 -- Basic: a world is one.
 use Rattle.mm_model.specs.History.{requests_of, History, first_history}
-use Rattle.mm_model.specs.Instance.{Instance}
-use Rattle.mm_worlds.specs.OneWorld.{WorldFollows}
-use Rattle.mm_worlds.specs.Premises.{AreHonest, handed_after, messages_from, world_messages}
+use Rattle.mm_model.specs.Chains.{Instance}
+use Rattle.mm_worlds.specs.OneWorld.{WorldFollows, BasicWorldIsOne}
+use Rattle.mm_worlds.specs.Premises.{AreHonest, handed_after, messages_from, world_messages, Handed, instance_of, key_of, IsHonest}
+use Rattle.mm_worlds.specs.Premises.{IsWorldAtStart, asked_messages, calls_in, first_handed, handed_at_end, Accepts, Invites, IsWorldLife}
+use Rattle.mm_worlds.specs.Premises.{Lives, Retires, World, WorldPart, WorldPartLeads, WorldStage, world_after, world_at_end}
 use Rattle.std.specs.List.{AllByRecursion, Contains}
 use Rattle.std.proofs.Common.{◌≡◌, ◌++◌, ℕ, List, [], ◌∷◌, None, arith, refl, inl}
 use Rattle.mm_digest.specs.Messages.{start_message}
@@ -14,23 +16,15 @@ use Rattle.mm_platform.specs.Standing.{Standing}
 use Rattle.mm_module.specs.Batch.{Batch}
 use Rattle.mm_module.specs.Meaning.{IsLawful, Meaning}
 use Rattle.mm_model.specs.ListLaws.{each_left, each_right, each_self}
-use Rattle.mm_model.specs.Messages.{AreMessagesIn, IsClear}
-use Rattle.mm_model.specs.PlaceMessages.{place_messages}
-use Rattle.mm_life.specs.PartsElsewhere.{PartsAreRefusedElsewhere}
-use Rattle.mm_life.specs.Premises.{call_batches}
+use Rattle.mm_model.specs.Messages.{AreMessagesIn, IsClear, place_messages}
+use Rattle.mm_life.specs.Premises.{PartsAreRefusedElsewhere, call_batches}
 use Rattle.mm_life.proofs.Above.{AreListed, basic_life, first_genuine, first_within}
 use Rattle.mm_move.specs.declared.cell.MovedCell.TheVariants as moved
 use Rattle.mm_move.specs.declared.link.Link.{Link}
 use Rattle.mm_move.proofs.Above.{length-zero_bytes}
-use Rattle.mm_worlds.specs.Handed.{Handed}
-use Rattle.mm_worlds.specs.Laws.{BasicWorldIsOne}
-use Rattle.mm_worlds.specs.Platforms.{instance_of, key_of}
-use Rattle.mm_worlds.specs.Premises.{IsHonest, IsWorldAtStart, asked_messages, calls_in, first_handed, handed_at_end}
-use Rattle.mm_worlds.specs.Worlds.{Accepts, Invites, IsWorldLife, Lives, Retires, World, WorldPart, WorldPartLeads, WorldStage, world_after}
-use Rattle.mm_worlds.specs.Worlds.{world_at_end}
 use Rattle.mm_worlds.proofs.AnyWorld.{StageGoes, first_cells, first_order, offer_genuine, somewhere}
-use Rattle.mm_worlds.proofs.Kept.{StandsInOrder}
-use Rattle.mm_worlds.proofs.Inviting.{kept_inviting}
+use Rattle.mm_worlds.proofs.Orders.{StandsInOrder}
+use Rattle.mm_worlds.proofs.Moving.{kept_inviting}
 use Rattle.mm_worlds.proofs.Retiring.{kept_retiring}
 use Rattle.mm_worlds.proofs.Accepting.{kept_accepting}
 use Rattle.mm_worlds.proofs.Living.{WorldLaws, kept_living}

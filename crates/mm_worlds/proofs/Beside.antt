@@ -1,10 +1,9 @@
 -- A move leaves the register's items in front, with values of others behind them.
 use Rattle.std.proofs.Common.{◌≡◌, ◌∙◌, ℕ, List, [], ◌++◌, Option, None, Some, Result, Ok, Err, map, refl, sym, ap, append_assoc}
 use Rattle.std.proofs.lemmas.List.{append-nil, map-append}
-use Rattle.mm_platform.specs.Standing.{Item, Standing, foreign_item}
-use Rattle.mm_platform.specs.Steps.{items_beside}
+use Rattle.mm_platform.specs.Standing.{Item, Standing, foreign_item, items_beside}
 use Rattle.mm_platform.specs.declared.fault.StepFault.{StepFault}
-use Rattle.mm_move.specs.Moves.{AreMoveSteps, EndsAfterRead, MakesMoveStep, MoveGoesOn}
+use Rattle.mm_move.specs.Cells.{AreMoveSteps, EndsAfterRead, MakesMoveStep, MoveGoesOn}
 use Rattle.mm_move.specs.declared.ready.ReadyMove.{ReadyMove}
 use Rattle.mm_move.specs.declared.refusal.MoveRefusal.{MoveRefusal}
 

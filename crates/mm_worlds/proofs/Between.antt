@@ -1,28 +1,142 @@
--- What holds at each moment of a world: what each cell holds, where the module is, and who is awaited by which nonce.
+-- What holds at each moment of a world. With it: what a cell of a world holds; a module that goes
+-- over three platforms, with a call on each.
 use Rattle.std.specs.List.{AllByRecursion, Contains}
-use Rattle.std.proofs.Common.{arith, ◌≡◌, ◌⊎◌, ◌++◌, ℕ, Bool, true, false, List, [], ◌∷◌, Option, None, Some, Ok, refl, sym, ap, subst, inl, inr}
+use Rattle.std.specs.Option.{option_map_or}
 use Rattle.std.specs.Prelude.{◌==◌, if◌then◌else◌}
+use Rattle.std.proofs.Common.{◌≡◌, ◌∙◌, ℕ, List, [], Option, None, Some, Result, Ok, Err, refl, sym, ap, arith, ◌⊎◌, ◌++◌, Bool, true}
+use Rattle.std.proofs.Common.{false, ◌∷◌, subst, inl, inr, length}
 use Rattle.std.proofs.lemmas.Bool.Decides.{nat_tests}
 use Rattle.std.proofs.lemmas.List.Elements.{Contains-append_left}
 use Rattle.mm_digest.specs.declared.variant.Variant.{Variant}
+use Rattle.mm_digest.specs.declared.variant.Variant.TheVariants.{Basic}
+use Rattle.mm_seal.specs.Cell.{IsNoCell, blank_cell, cell_spelling}
 use Rattle.mm_seal.specs.Snapshot.{Content}
+use Rattle.mm_seal.specs.declared.cell.CellFault.{CellFault}
+use Rattle.mm_seal.specs.declared.cell.CellFault.TheVariants as fault
 use Rattle.mm_platform.specs.Standing.{Standing}
-use Rattle.mm_module.specs.Meaning.{Meaning}
-use Rattle.mm_model.specs.History.{History}
-use Rattle.mm_model.specs.HistoryWords.{cell_digest_of}
-use Rattle.mm_model.specs.Instance.{Instance}
-use Rattle.mm_model.specs.Messages.{AreMessagesIn}
-use Rattle.mm_model.specs.PlaceMessages.{place_messages}
-use Rattle.mm_model.specs.Places.{NamesPosition}
-use Rattle.mm_model.specs.Standing.{IsGenuine, RegisterStands, cell_of}
-use Rattle.mm_move.specs.Orders.{barrier_of, is_place_at, right_ticket}
+use Rattle.mm_module.specs.Batch.{One}
+use Rattle.mm_module.specs.Meaning.{Meaning, IsLawful}
+use Rattle.mm_model.specs.Chains.{Instance, basic_instance}
+use Rattle.mm_model.specs.History.{History, cell_digest_of, first_history}
+use Rattle.mm_model.specs.Messages.{AreMessagesIn, place_messages}
+use Rattle.mm_model.specs.Moves.{is_long}
+use Rattle.mm_model.specs.Standing.{NamesPosition, IsGenuine, RegisterStands, cell_of, StandsFor}
+use Rattle.mm_model.specs.declared.answer.Answer.{Answer}
+use Rattle.mm_model.specs.declared.refusal.Refusal.{Refusal}
+use Rattle.mm_call.specs.CallFinding.{batch_result_of}
+use Rattle.mm_basic.specs.AskPromise.{BasicAskPromise}
+use Rattle.mm_move.specs.Cells.{IsMoved, moved_cell_of, moved_spelling, retired_spelling, waiting_spelling, part, MovePromise}
+use Rattle.mm_move.specs.Orders.{barrier_of, is_place_at, right_ticket, acceptance_in, invitation_in, retirement_in, waiting_for}
 use Rattle.mm_move.specs.Tickets.{TicketContent, summary_in}
 use Rattle.mm_move.specs.declared.cell.MovedCell.{MovedCell}
 use Rattle.mm_move.specs.declared.cell.MovedCell.TheVariants as moved
 use Rattle.mm_move.specs.declared.link.Link.{Link}
-use Rattle.mm_worlds.specs.Handed.{KeyedSnapshot}
-use Rattle.mm_worlds.proofs.Cells.{IsAwaited, IsLiveCell}
-use Rattle.mm_worlds.proofs.Cells.{HoldsCell}
+use Rattle.mm_move.proofs.Above.{blank_read, bytes_are, moved_back, three}
+use Rattle.mm_sides.specs.BothSides.{Blank, Live}
+use Rattle.mm_life.specs.Deeds.{BatchCallLeads, BatchCallsAreDeeds, Calls, Extends, call_of}
+use Rattle.mm_life.specs.Stages.{Does}
+use Rattle.mm_worlds.specs.declared.journey.Journey.{Journey}
+use Rattle.mm_worlds.specs.declared.journey.Leg.{Leg}
+use Rattle.mm_worlds.specs.declared.journey.Pass.{Pass}
+use Rattle.mm_worlds.specs.Journey.{BothEnds, Errand, GoesOn, GoesRound, ThreeSites, TravelsRound, Waystations, accepted_snapshot}
+use Rattle.mm_worlds.specs.Journey.{call_part, journey_stages, pass_of, three_platforms, ticket_given}
+use Rattle.mm_worlds.specs.OneWorld.{WorldIsOneOrEvidence}
+use Rattle.mm_worlds.specs.Premises.{key_of, role_in, role_of, KeyedSnapshot, IsWorldAtStart, IsWorldLife, Lives, WorldPartLeads}
+
+-- What a cell of a world holds: nothing, or the module's cell of one of three forms.
+
+abbrev pub reading_of : Option MovedCell → Result MovedCell CellFault
+reading_of None = Err fault.Blank
+reading_of (Some m) = Ok m
+
+abbrev pub bytes_held : Option MovedCell → List ℕ
+bytes_held None = blank_cell
+bytes_held (Some m) = moved_spelling m
+
+abbrev pub key_in : MovedCell → List ℕ
+key_in (moved.Live c) = c.key
+key_in (moved.Waiting c) = c.key
+key_in (moved.Retired c) = c.key
+
+-- the module lives there
+abbrev pub IsLiveCell : Option MovedCell → Type 0
+IsLiveCell (Some (moved.Live c)) = Unit {0}
+IsLiveCell held = ⊥
+
+-- it is awaited there under the nonce
+abbrev pub IsAwaited : Option MovedCell → List ℕ → Type 0
+IsAwaited (Some (moved.Waiting c)) nonce = c.nonce ≡ nonce
+IsAwaited held nonce = ⊥
+
+pub live_role : (held : Option MovedCell) → role_in (reading_of held) ≡ Live → IsLiveCell held
+live_role (Some (moved.Live c)) e = tt
+live_role None e = absurd (cc)
+live_role (Some (moved.Waiting c)) e = absurd (cc)
+live_role (Some (moved.Retired c)) e = absurd (cc)
+
+-- of the variant, of the module, and with the barrier
+abbrev pub IsOwnCell : Variant → Meaning → Link → MovedCell → Type 0
+IsOwnCell variant meaning link (moved.Live c) =
+    (c.variant ≡ variant) × (c.module ≡ meaning.id) × (c.barrier ≡ barrier_of variant link)
+IsOwnCell variant meaning link (moved.Waiting c) =
+    (c.variant ≡ variant) × (c.module ≡ meaning.id) × (c.barrier ≡ barrier_of variant link)
+IsOwnCell variant meaning link (moved.Retired c) = (c.variant ≡ variant) × (c.module ≡ meaning.id)
+
+pub record HoldsOwn (variant : Variant) (meaning : Meaning) (link : Link) (standing : Standing) (m : MovedCell) : Type 0 where
+  pub formed : IsMoved m
+  pub own : IsOwnCell variant meaning link m
+  pub told : standing.cell ≡ Some (moved_spelling m)
+
+abbrev pub HoldsCell : Variant → Meaning → Link → Standing → Option MovedCell → Type 0
+HoldsCell variant meaning link standing None = standing.cell ≡ Some blank_cell
+HoldsCell variant meaning link standing (Some m) = HoldsOwn variant meaning link standing m
+
+module _ (variant : Variant) (meaning : Meaning) (link : Link) where
+  -- where the bytes are the same, so is what is held
+  pub holds_still : (old new : Standing) (held : Option MovedCell) → new.cell ≡ old.cell → HoldsCell variant meaning link old held
+      → HoldsCell variant meaning link new held
+  holds_still old new None same h = same ∙ h
+  holds_still old new (Some m) same h = record { formed = h.formed; own = h.own; told = same ∙ h.told }
+
+  pub held_told : (standing : Standing) (held : Option MovedCell) → HoldsCell variant meaning link standing held
+      → standing.cell ≡ Some (bytes_held held)
+  held_told standing None h = h
+  held_told standing (Some m) h = h.told
+
+  pub held_read : (standing : Standing) (held : Option MovedCell) → HoldsCell variant meaning link standing held
+      → moved_cell_of (bytes_held held) ≡ reading_of held
+  held_read standing None h = sym (blank_read blank_cell (bytes_are blank_cell blank_cell refl))
+  held_read standing (Some m) h = moved_back m h.formed
+
+  pub role_held : (standing : Standing) (held : Option MovedCell) → HoldsCell variant meaning link standing held
+      → role_of standing ≡ role_in (reading_of held)
+  role_held standing held h =
+      ap (λ (cell : Option (List ℕ)). option_map_or (λ bytes. role_in (moved_cell_of bytes)) cell Blank) (held_told standing held h)
+      ∙ ap role_in (held_read standing held h)
+
+key_back : (m : MovedCell) → IsMoved m → part 40 (moved_spelling m) ≡ key_in m
+unfolding cell_spelling waiting_spelling retired_spelling
+key_back (moved.Live c) is = (three c.summary.bytes c.key c.barrier is.summary is.key is.barrier).second
+key_back (moved.Waiting c) is = (three c.nonce c.key c.barrier is.nonce is.key is.barrier).second
+key_back (moved.Retired c) is = (three c.summary.bytes c.key c.nonce is.summary is.key is.nonce).second
+
+module _ (variant : Variant) (meaning : Meaning) (link : Link) where
+  pub key_held : (standing : Standing) (m : MovedCell) → HoldsOwn variant meaning link standing m → key_of standing ≡ key_in m
+  key_held standing m h = ap (λ (cell : Option (List ℕ)). option_map_or (part 40) cell []) h.told ∙ key_back m h.formed
+
+  -- where none lives, the bytes are no live cell's
+  pub no_cell : (standing : Standing) (held : Option MovedCell) → HoldsCell variant meaning link standing held → (IsLiveCell held → ⊥)
+      → IsNoCell (bytes_held held)
+  no_cell standing held h away cell is same =
+      by_form held away (sym (held_read variant meaning link standing held h) ∙ ap moved_cell_of same ∙ moved_back (moved.Live cell) is)
+    where
+      by_form : (held : Option MovedCell) → (IsLiveCell held → ⊥) → reading_of held ≡ Ok (moved.Live cell) → ⊥
+      by_form None away e = absurd (cc)
+      by_form (Some (moved.Live c)) away e = away tt
+      by_form (Some (moved.Waiting c)) away e = absurd (cc)
+      by_form (Some (moved.Retired c)) away e = absurd (cc)
+
+-- What holds at each moment of a world: what each cell holds, where the module is, and who is awaited by which nonce.
 
 -- A thing that each platform has, with that of one platform changed.
 
@@ -192,3 +306,115 @@ module _ (variant : Variant) (meaning : Meaning) (link : Link) where
   left_for_on cells after nonces more (Some going) y back nonce anchor (inl h) =
       inl (spent_on cells after nonces more nonce (λ at. back at nonce) h)
   left_for_on cells after nonces more (Some going) y back nonce anchor (inr h) = inr h
+
+-- A module that goes over three platforms, with a call on each.
+
+-- a call is the part that it is said to be, too long or not
+module _ (deeds : BatchCallsAreDeeds) (meaning : Meaning) (link : Link) where
+  pub asks_there : (old new : Standing) (offer request : List ℕ) (gives : Result Answer Refusal)
+      → BasicAskPromise meaning old new offer (One request) (batch_result_of gives)
+      → WorldPartLeads Basic meaning link old (call_part offer request gives) new
+  asks_there old new offer request gives promise = by_length (is_long (One request)) refl
+    where
+      leads : BatchCallLeads Basic meaning old new offer (One request) (batch_result_of gives)
+      leads = deeds Basic meaning old new offer (One request) (batch_result_of gives) promise
+
+      by_length : (long : Bool) → is_long (One request) ≡ long → WorldPartLeads Basic meaning link old
+          (if long then Lives (Does (Extends [])) else Lives (Does (Calls (call_of offer request gives)))) new
+      by_length true e = leads.long e
+      by_length false e = leads.short e
+
+  -- a leg, by what its calls promise
+  module _ (nonce key offer request : List ℕ) (long_nonce : length nonce ≡ 32) (long_key : length key ≡ 32) where
+    pub goes_on : (old new : BothEnds) (leg : Leg) (waiting entered : Standing) (id : ℕ) → id ≡ meaning.id
+        → (ticket snapshot : List ℕ) → ticket ≡ ticket_given leg.left → snapshot ≡ accepted_snapshot leg.arrived
+        → MovePromise (λ bytes. invitation_in (waiting_for link Basic id nonce key) (moved_cell_of bytes)) old.ahead waiting leg.invited
+        → MovePromise (λ bytes. retirement_in meaning Basic link nonce offer (moved_cell_of bytes)) old.behind new.behind leg.left
+        → MovePromise (λ bytes. acceptance_in meaning Basic link ticket (moved_cell_of bytes)) waiting entered leg.arrived
+        → BasicAskPromise meaning entered new.ahead snapshot (One request) (batch_result_of leg.asked)
+        → GoesOn meaning link (pass_of nonce key) offer request old new leg
+    goes_on old new leg waiting entered id own ticket snapshot paper shown invites retires accepts asks = record {
+      waiting = waiting;
+      entered = entered;
+      invites = (
+        long_nonce,
+        long_key,
+        subst (λ (n : ℕ). MovePromise (λ (bytes : List ℕ). invitation_in (waiting_for link Basic n nonce key) (moved_cell_of bytes))
+            old.ahead waiting leg.invited) own invites,
+      );
+      retires = (long_nonce, retires);
+      accepts = subst (λ (bytes : List ℕ). MovePromise
+          (λ (cell : List ℕ). acceptance_in meaning Basic link bytes (moved_cell_of cell)) waiting entered leg.arrived) paper accepts;
+      asks = subst (λ (bytes : List ℕ). WorldPartLeads Basic meaning link entered (call_part bytes request leg.asked) new.ahead) shown
+          (asks_there entered new.ahead snapshot request leg.asked asks);
+    }
+
+-- what is offered is what came back
+pub leg_by : (meaning : Meaning) (link : Link) (pass : Pass) (old new : BothEnds) (leg : Leg) (offer answered request : List ℕ)
+    → offer ≡ answered → GoesOn meaning link pass offer request old new leg → GoesOn meaning link pass answered request old new leg
+leg_by meaning link pass old new leg offer answered request e g =
+    subst (λ (bytes : List ℕ). GoesOn meaning link pass bytes request old new leg) e g
+
+-- by what the platforms tell at the start, it is a world's
+module _ (meaning : Meaning) (link : Link) (sites : ThreeSites) (key : List ℕ)
+    (first : StandsFor (basic_instance meaning key) sites.first first_history) where
+  own_key : key_of sites.first ≡ key
+  own_key =
+      key_held Basic meaning link sites.first (moved.Live (cell_of (basic_instance meaning key) first_history))
+      (record { formed = first.spells; own = (refl, refl, refl); told = first.cell })
+
+  pub starts_so : sites.second.cell ≡ Some blank_cell → sites.third.cell ≡ Some blank_cell
+      → IsWorldAtStart Basic meaning link (three_platforms sites)
+  starts_so second third = record {
+    first = subst (λ (k : List ℕ). StandsFor (basic_instance meaning k) sites.first first_history) (sym own_key) first;
+    others = λ at differs.
+        by_test (λ (it : Standing). it.cell ≡ Some blank_cell) sites.first _ (at == 0)
+        (λ e. absurd (differs (same_number at 0 e)))
+        (λ _. by_test (λ (it : Standing). it.cell ≡ Some blank_cell) sites.second _ (at == 1) (λ _. second)
+        (λ _. by_test (λ (it : Standing). it.cell ≡ Some blank_cell) sites.third (record sites.third { cell = Some blank_cell })
+        (at == 2) (λ _. third) (λ _. refl)));
+  }
+
+module _ (law : WorldIsOneOrEvidence) (meaning : Meaning) (lawful : IsLawful meaning) (link : Link) (e : Errand) (offer : List ℕ)
+    (old new : ThreeSites) (result : Journey) where
+  -- its stages, one after another
+  leads_round : (w : Waystations) (g : GoesRound meaning link e offer old new result w)
+      → IsWorldLife Basic meaning link (three_platforms old) (journey_stages g)
+  leads_round w g = (
+    g.asks,
+    (
+      g.out.invites,
+      (
+        g.out.retires,
+        (
+          g.out.accepts,
+          (
+            g.out.asks,
+            (
+              g.across.invites,
+              (
+                g.across.retires,
+                (
+                  g.across.accepts,
+                  (g.across.asks, (g.home.invites, (g.home.retires, (g.home.accepts, (g.home.asks, tt))))),
+                ),
+              ),
+            ),
+          ),
+        ),
+      ),
+    ),
+  )
+
+  pub travels : (w : Waystations) → GoesRound meaning link e offer old new result w
+      → TravelsRound meaning link e offer old new result
+  travels w g =
+      let leads : IsWorldLife Basic meaning link (three_platforms old) (journey_stages g) = leads_round w g in
+      record {
+        stations = w;
+        goes = g;
+        leads = leads;
+        one = λ key first second third.
+            law meaning lawful link (three_platforms old) (journey_stages g) leads
+            (starts_so meaning link old key first second third);
+      }

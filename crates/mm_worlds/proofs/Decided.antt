@@ -1,36 +1,47 @@
--- A world meets its premises or gives evidence, and never both.
+-- A world meets its premises or gives evidence, and never both. With it: a module that crosses from
+-- one platform to another, with sessions on either side; what is told on all platforms together is
+-- told in one run of the machine.
 use Rattle.std.specs.List.{AllByRecursion, Contains}
 use Rattle.std.specs.Str.{bytes_eq}
-use Rattle.std.proofs.Common.{◌≡◌, ◌∙◌, ◌⊎◌, ℕ, List, [], ◌∷◌, Option, None, Some, Result, Ok, Err, refl, sym, subst, inl, inr}
+use Rattle.std.proofs.Common.{◌≡◌, ◌∙◌, ◌⊎◌, ℕ, List, [], ◌∷◌, Option, None, Some, Result, Ok, Err, refl, sym, subst, inl, inr, length}
+use Rattle.std.proofs.Common.{◌++◌}
 use Rattle.std.proofs.lemmas.Slice.Eq.{bytes_eq-Decides}
 use Rattle.mm_digest.specs.declared.variant.Variant.{Variant}
 use Rattle.mm_digest.specs.declared.variant.Variant.TheVariants.{Basic, Opt}
 use Rattle.mm_seal.specs.Parts.{parts_of}
 use Rattle.mm_seal.specs.Snapshot.{Content}
 use Rattle.mm_platform.specs.Standing.{Standing}
-use Rattle.mm_module.specs.Meaning.{Meaning}
-use Rattle.mm_model.specs.Instance.{Instance}
+use Rattle.mm_module.specs.Meaning.{Meaning, IsLawful}
+use Rattle.mm_listing.specs.Listing.{Telling}
+use Rattle.mm_modules.specs.Modules.{listing_of, meaning_of}
+use Rattle.mm_model.specs.Chains.{Instance}
 use Rattle.mm_model.specs.ListLaws.{each_self}
 use Rattle.mm_model.specs.Standing.{IsRight}
 use Rattle.mm_call.specs.CallFinding.{right_content}
 use Rattle.mm_call.specs.OfferLaws.{right_of}
 use Rattle.mm_call.proofs.Above.{each_at}
-use Rattle.mm_outcome.proofs.Above.{said_of}
-use Rattle.mm_evidence.proofs.Above.{clash_apart, clash_or, found_or_none}
-use Rattle.mm_life.specs.Premises.{IsUntagged}
-use Rattle.mm_move.specs.Orders.{right_ticket}
+use Rattle.mm_move.specs.Cells.{moved_cell_of, MovePromise}
+use Rattle.mm_move.specs.Orders.{right_ticket, acceptance_in, invitation_in, retirement_in, waiting_for}
 use Rattle.mm_move.specs.Tickets.{TicketContent}
 use Rattle.mm_move.specs.declared.link.Link.{Link}
 use Rattle.mm_move.specs.declared.refusal.MoveRefusal.{MoveRefusal}
-use Rattle.mm_worlds.specs.Evidence.{HasWorldBreach, IsWorldBreach, forged_offer, forged_ticket, nonce_twice}
-use Rattle.mm_worlds.specs.Handed.{Handed, snapshots_under}
-use Rattle.mm_worlds.specs.Laws.{BasicWorldIsOne, EvidenceIsNoPremise, OptEvidenceIsNoPremise, OptWorldIsOne, OptWorldIsOneOrEvidence}
-use Rattle.mm_worlds.specs.Laws.{WorldIsOneOrEvidence}
-use Rattle.mm_worlds.specs.OptPremises.{opt_world_messages, world_batches, world_values}
-use Rattle.mm_worlds.specs.Platforms.{instance_of, key_of}
-use Rattle.mm_worlds.specs.Premises.{AreHonest, IsHonest, IsOwnTicket, first_handed, handed_after, nonces_in, offers_in, tickets_offered}
-use Rattle.mm_worlds.specs.Premises.{world_messages}
-use Rattle.mm_worlds.specs.Worlds.{IsWorldLife, World, WorldPart, WorldPartLeads, WorldStage, world_after}
+use Rattle.mm_schedule.specs.Replies.{RunsKeepPromises, tellings_in}
+use Rattle.mm_schedule.specs.declared.reply.Reply.{Reply}
+use Rattle.mm_outcome.proofs.Above.{said_of}
+use Rattle.mm_evidence.proofs.Above.{clash_apart, clash_or, found_or_none}
+use Rattle.mm_host.specs.Sessions.{IsSession}
+use Rattle.mm_life.specs.Premises.{IsUntagged}
+use Rattle.mm_life.specs.Stages.{session_on}
+use Rattle.mm_life.proofs.Above.{Ran, ran_none, ran_part, ran_same}
+use Rattle.mm_worlds.specs.declared.crossing.Crossing.{Crossing}
+use Rattle.mm_worlds.specs.Journey.{CrossesOver, SiteStanding, accepted_at, both_sites, invited_at, retired_at, session_at, two_platforms}
+use Rattle.mm_worlds.specs.OneWorld.{HasWorldBreach, IsWorldBreach, forged_offer, forged_ticket, nonce_twice, BasicWorldIsOne}
+use Rattle.mm_worlds.specs.OneWorld.{EvidenceIsNoPremise, OptEvidenceIsNoPremise, OptWorldIsOne, OptWorldIsOneOrEvidence}
+use Rattle.mm_worlds.specs.OneWorld.{WorldIsOneOrEvidence, opt_world_messages, world_batches, world_values, WorldsKeepPromises}
+use Rattle.mm_worlds.specs.OneWorld.{WorldFollows, WorldPartSteps, world_part_replies, world_replies}
+use Rattle.mm_worlds.specs.Premises.{Handed, snapshots_under, instance_of, key_of, AreHonest, IsHonest, IsOwnTicket, first_handed}
+use Rattle.mm_worlds.specs.Premises.{handed_after, nonces_in, offers_in, tickets_offered, world_messages, IsWorldLife, World, WorldPart}
+use Rattle.mm_worlds.specs.Premises.{WorldPartLeads, WorldStage, world_after, Accepts, Invites, Lives, Retires}
 
 -- it is among these, or it isn't
 contains_or : (xs : List (List ℕ)) (x : List ℕ) → Contains xs x ⊎ (Contains xs x → ⊥)
@@ -190,3 +201,84 @@ opt_no_premise meaning link world stages f clear guarded honest (inl clash) =
     (world_values meaning link world stages f) (world_batches meaning link world stages f) clear (λ opt. guarded) clash
 opt_no_premise meaning link world stages f clear guarded honest (inr broken) =
     all_apart Opt meaning link stages (first_handed Opt meaning link world) world f honest broken
+
+-- A module that crosses from one platform to another, with sessions on either side.
+
+module _ (law : WorldIsOneOrEvidence) (meaning : Meaning) (lawful : IsLawful meaning) (link : Link) (nonce key offer : List ℕ)
+    (long_nonce : length nonce ≡ 32) (long_key : length key ≡ 32) (first first' second second' : SiteStanding) (result : Crossing)
+    (served waiting entered : Standing) (ticket : List ℕ) where
+  abbrev stages : List WorldStage
+  stages =
+      session_at 0 first first' result.first served
+      ∷ invited_at 1 nonce key result.invited waiting
+      ∷ retired_at 0 nonce offer (Ok ticket) first'.platform
+      ∷ accepted_at 1 ticket result.accepted entered
+      ∷ session_at 1 second second' result.second second'.platform
+      ∷ []
+
+  whole : IsWorldLife Basic meaning link (two_platforms first.platform second.platform) stages
+      → CrossesOver meaning link nonce key offer (both_sites first second) (both_sites first' second') result
+  whole leads = record {
+    made = record { ticket = ticket; served = served; waiting = waiting; entered = entered; stages = stages; are = refl };
+    leads = leads;
+    one = λ start. law meaning lawful link (two_platforms first.platform second.platform) stages leads start;
+  }
+
+  pub crosses : (paper : List ℕ) → paper ≡ ticket → (id : ℕ) → id ≡ meaning.id
+      → IsSession Basic meaning (session_on first.platform first.program) (session_on served first'.program) result.first
+      → MovePromise (λ bytes. invitation_in (waiting_for link Basic id nonce key) (moved_cell_of bytes)) second.platform waiting
+      result.invited
+      → MovePromise (λ bytes. retirement_in meaning Basic link nonce offer (moved_cell_of bytes)) served first'.platform (Ok ticket)
+      → MovePromise (λ bytes. acceptance_in meaning Basic link paper (moved_cell_of bytes)) waiting entered result.accepted
+      → IsSession Basic meaning (session_on entered second.program) (session_on second'.platform second'.program) result.second
+      → CrossesOver meaning link nonce key offer (both_sites first second) (both_sites first' second') result
+  crosses paper is id own one invites retires accepts two = whole (
+    one,
+    (
+      (
+        long_nonce,
+        long_key,
+        subst (λ (n : ℕ). MovePromise (λ (bytes : List ℕ). invitation_in (waiting_for link Basic n nonce key) (moved_cell_of bytes))
+            second.platform waiting result.invited) own invites,
+      ),
+      (
+        (long_nonce, retires),
+        (
+          subst (λ (bytes : List ℕ). MovePromise (λ (cell : List ℕ). acceptance_in meaning Basic link bytes (moved_cell_of cell)) waiting
+              entered result.accepted) is accepts,
+          (two, tt),
+        ),
+      ),
+    ),
+  )
+
+-- What is told on all platforms together is told in one run of the machine.
+
+module _ (variant : Variant) (meaning : Meaning) (link : Link) where
+  ran_one : (old : Standing) (part : WorldPart) (new : Standing) (f : WorldPartLeads variant meaning link old part new)
+      (requests between after : List (List ℕ)) (more : List Reply)
+      → WorldPartSteps variant meaning link old part new f requests between → Ran meaning between (tellings_in more) after
+      → Ran meaning requests (tellings_in (world_part_replies variant meaning link old part new f ++ more)) after
+  ran_one old (Lives part) new f requests between after more steps r =
+      ran_part variant meaning old part new f requests between after more steps r
+  ran_one old (Invites nonce key result) new f requests between after more steps r =
+      ran_same meaning requests between after (tellings_in more) steps r
+  ran_one old (Retires nonce offer result) new f requests between after more steps r =
+      ran_same meaning requests between after (tellings_in more) steps r
+  ran_one old (Accepts ticket result) new f requests between after more steps r =
+      ran_same meaning requests between after (tellings_in more) steps r
+
+  ran_all : (stages : List WorldStage) (world : World) (f : IsWorldLife variant meaning link world stages)
+      (requests after : List (List ℕ)) → WorldFollows variant meaning link world stages f requests after
+      → Ran meaning requests (tellings_in (world_replies variant meaning link world stages f)) after
+  ran_all [] world f requests after follows = ran_none meaning requests after follows
+  ran_all (stage ∷ stages) world f requests after follows =
+      ran_one (world stage.at) stage.part stage.after f.0 requests follows.0 after
+      (world_replies variant meaning link (world_after world stage) stages f.1) follows.1
+      (ran_all stages (world_after world stage) f.1 follows.0 after follows.2)
+
+pub worlds_keep : RunsKeepPromises → WorldsKeepPromises
+worlds_keep keeps it variant link world stages f requests follows =
+    let r = ran_all variant (meaning_of it) link stages world f [] requests follows in
+    subst (λ (tellings : List Telling). (listing_of it).promise requests tellings) r.tells
+    (keeps it r.events r.replies requests r.runs)

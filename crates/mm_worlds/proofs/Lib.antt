@@ -1,22 +1,14 @@
-mod Cells
-mod Outcomes
-mod Beside
 mod Between
+mod Moving
+mod Beside
 mod Names
 mod Orders
-mod Kept
 mod RefusedParts
 mod Living
-mod Papers
-mod Inviting
 mod Retiring
 mod Accepting
 mod AnyWorld
 mod BasicWorld
-mod Promises
 mod Decided
-mod Crossings
 mod OptWorld
-mod Journeys
-mod Moving
 pub mod Above

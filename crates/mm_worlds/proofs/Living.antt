@@ -10,36 +10,29 @@ use Rattle.mm_platform.specs.Standing.{Standing}
 use Rattle.mm_module.specs.Batch.{Batch}
 use Rattle.mm_module.specs.Meaning.{Meaning}
 use Rattle.mm_model.specs.History.{History, requests_of}
-use Rattle.mm_model.specs.Instance.{Instance}
+use Rattle.mm_model.specs.Chains.{Instance}
 use Rattle.mm_model.specs.ListLaws.{each_append}
 use Rattle.mm_model.specs.Messages.{AreNoGuards, IsClear}
-use Rattle.mm_model.specs.Places.{NamesPosition}
-use Rattle.mm_model.specs.Standing.{IsGenuine, RegisterStands, StandsFor, cell_of}
+use Rattle.mm_model.specs.Standing.{NamesPosition, IsGenuine, RegisterStands, StandsFor, cell_of}
 use Rattle.mm_call.specs.CallPremises.{IsWithin}
-use Rattle.mm_recovery.specs.Elsewhere.{LivesElsewhere}
+use Rattle.mm_recovery.specs.HostStanding.{LivesElsewhere}
 use Rattle.mm_life.specs.Deeds.{Calls, Checkpoints, Extends, LifeCall, LosesPower}
-use Rattle.mm_life.specs.OneList.{PartSteps}
-use Rattle.mm_life.specs.PartsElsewhere.{FindsNoCell, PartsAreRefusedElsewhere}
-use Rattle.mm_life.specs.Premises.{IsUntagged, snapshots_of}
-use Rattle.mm_life.specs.Stages.{Does, Holds, LifePart, PartLeads, part_calls}
+use Rattle.mm_life.specs.Stages.{PartSteps, Does, Holds, LifePart, PartLeads, part_calls}
+use Rattle.mm_life.specs.Premises.{FindsNoCell, PartsAreRefusedElsewhere, IsUntagged, snapshots_of}
 use Rattle.mm_life.proofs.Above.{AreListed, IsFirstGenuine, LifeLaws, part_lives}
 use Rattle.mm_move.specs.Orders.{barrier_of}
 use Rattle.mm_move.specs.declared.cell.MovedCell.{MovedCell}
 use Rattle.mm_move.specs.declared.cell.MovedCell.TheVariants as moved
 use Rattle.mm_move.specs.declared.link.Link.{Link}
 use Rattle.mm_move.proofs.Above.{bytes_tell}
-use Rattle.mm_sides.specs.Roles.{Live, Role}
-use Rattle.mm_worlds.specs.Handed.{Handed, KeyedSnapshot, keyed_snapshots, snapshots_under}
-use Rattle.mm_worlds.specs.Platforms.{key_of, role_of}
-use Rattle.mm_worlds.specs.Premises.{calls_at, first_offers}
-use Rattle.mm_worlds.proofs.Cells.{IsLiveCell, bytes_held}
+use Rattle.mm_sides.specs.BothSides.{Live, Role}
+use Rattle.mm_worlds.specs.Premises.{Handed, KeyedSnapshot, keyed_snapshots, snapshots_under, key_of, role_of, calls_at, first_offers}
+use Rattle.mm_worlds.proofs.Between.{IsLiveCell, bytes_held, IsGoodPaper, IsInOrder, IsKeyedGenuine, LeftFor, by_test, changed_at}
+use Rattle.mm_worlds.proofs.Between.{instance_at, papers_on, HoldsCell, HoldsOwn, held_told, key_held, no_cell, role_held}
 use Rattle.mm_worlds.proofs.RefusedParts.{genuine_first, none_issued, part_refused}
 use Rattle.mm_worlds.proofs.Beside.{IsBeside}
-use Rattle.mm_worlds.proofs.Between.{IsGoodPaper, IsInOrder, IsKeyedGenuine, LeftFor, by_test, changed_at, instance_at, papers_on}
-use Rattle.mm_worlds.proofs.Cells.{HoldsCell, HoldsOwn, held_told, key_held, no_cell, role_held}
-use Rattle.mm_worlds.proofs.Kept.{StandsInOrder, handed_more, kept_still}
+use Rattle.mm_worlds.proofs.Orders.{StandsInOrder, handed_more, kept_still, goes_on_left, order_lived}
 use Rattle.mm_worlds.proofs.Names.{names_key, within_key}
-use Rattle.mm_worlds.proofs.Orders.{goes_on_left, order_lived}
 
 -- Snapshots under keys.
 

@@ -16,18 +16,14 @@ use Rattle.mm_platform.specs.Standing.{Item, Standing, item_values, register_aft
 use Rattle.mm_module.specs.Batch.{Batch, One, size_of}
 use Rattle.mm_module.specs.Meaning.{Meaning, state_after}
 use Rattle.mm_model.specs.BatchLaws.{at_the_end}
-use Rattle.mm_model.specs.Chains.{register_of, summary_of}
-use Rattle.mm_model.specs.DigestLaws.{register_folds}
+use Rattle.mm_model.specs.Chains.{register_of, summary_of, Instance, basic_instance, opt_instance}
+use Rattle.mm_model.specs.ListLaws.{register_folds}
 use Rattle.mm_model.specs.History.{History, RegisterEntry, Value, extension_value, items_of_all, register_value_of, requests_of, total_of}
-use Rattle.mm_model.specs.HistoryWords.{cell_digest_of}
-use Rattle.mm_model.specs.Instance.{Instance}
-use Rattle.mm_model.specs.InstanceWords.{basic_instance, opt_instance}
-use Rattle.mm_model.specs.Life.{Life, Live, has_value, life_of}
-use Rattle.mm_model.specs.Messages.{AreMessagesIn, AreNoGuards, IsClear, counted_entries, history_messages, values_in}
-use Rattle.mm_model.specs.PlaceMessages.{is_new, place_messages}
-use Rattle.mm_model.specs.Places.{IsPlaceOf, NamesPosition, issued_place}
-use Rattle.mm_model.specs.PlacesWords.{digest_of}
-use Rattle.mm_model.specs.Standing.{flag_of, register_reading}
+use Rattle.mm_model.specs.History.{cell_digest_of}
+use Rattle.mm_model.specs.Standing.{Life, Live, has_value, life_of, IsPlaceOf, NamesPosition, issued_place, digest_of, flag_of}
+use Rattle.mm_model.specs.Standing.{register_reading}
+use Rattle.mm_model.specs.Messages.{AreMessagesIn, AreNoGuards, IsClear, counted_entries, history_messages, values_in, is_new}
+use Rattle.mm_model.specs.Messages.{place_messages}
 use Rattle.mm_model.specs.Verdicts.{forms_of, is_fresh_form, is_last, verdict_by, verdict_by_digests, verdict_by_tests}
 use Rattle.mm_model.proofs.Above.{opt_issued, opt_stands_here, point_kept}
 use Rattle.mm_call.specs.CallPremises.{IsLedTo, IsWithin}

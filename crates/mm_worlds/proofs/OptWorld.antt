@@ -1,7 +1,11 @@
 -- Opt: a world is one.
 use Rattle.mm_model.specs.History.{requests_of, History, Value}
-use Rattle.mm_worlds.specs.OneWorld.{WorldFollows}
-use Rattle.mm_worlds.specs.Premises.{AreHonest, handed_after}
+use Rattle.mm_worlds.specs.OneWorld.{WorldFollows, OptWorldIsOne, AreRegistersTold, IsOptWorldAtStart, TellsRegister, bytes_if_live}
+use Rattle.mm_worlds.specs.OneWorld.{opt_messages_from, opt_messages_in, opt_world_messages, others_values_in, register_messages_in}
+use Rattle.mm_worlds.specs.OneWorld.{retirement_messages, world_batches, world_values}
+use Rattle.mm_worlds.specs.Premises.{AreHonest, handed_after, Handed, instance_of, key_of, role_of, IsHonest, asked_messages, calls_at}
+use Rattle.mm_worlds.specs.Premises.{calls_in, first_handed, handed_at_end, offers_to, Accepts, Invites, IsWorldLife, Lives, Retires, World}
+use Rattle.mm_worlds.specs.Premises.{WorldPart, WorldPartLeads, WorldStage, world_after, world_at_end}
 use Rattle.std.specs.List.{AllByRecursion, Contains, flat_map}
 use Rattle.std.proofs.Common.{◌≡◌, ◌++◌, ℕ, List, [], ◌∷◌, Option, None, Some, ◌⊎◌, map, true, refl, subst}
 use Rattle.mm_digest.specs.Messages.{start_message}
@@ -9,43 +13,31 @@ use Rattle.mm_digest.specs.declared.variant.Variant.TheVariants.{Opt}
 use Rattle.mm_platform.specs.Standing.{Item, Standing, item_values}
 use Rattle.mm_module.specs.Batch.{Batch}
 use Rattle.mm_module.specs.Meaning.{IsLawful, Meaning}
-use Rattle.mm_model.specs.Instance.{Instance}
+use Rattle.mm_model.specs.Chains.{Instance}
 use Rattle.mm_model.specs.ListLaws.{each_left, each_right, each_self}
-use Rattle.mm_model.specs.Messages.{AreMessagesIn, AreNoGuards, IsClear}
-use Rattle.mm_model.specs.PlaceMessages.{place_messages}
+use Rattle.mm_model.specs.Messages.{AreMessagesIn, AreNoGuards, IsClear, place_messages}
 use Rattle.mm_model.specs.Standing.{IsRight}
 use Rattle.std.specs.Option.{option_map_or}
 use Rattle.std.specs.Prelude.{IsSome}
 use Rattle.mm_seal.specs.Snapshot.{Content}
-use Rattle.mm_call.specs.ShownItems.{foreign_items}
+use Rattle.mm_call.specs.CallPremises.{foreign_items}
 use Rattle.mm_call.proofs.Above.{within_items}
 use Rattle.mm_outcome.proofs.Above.{said_of}
 use Rattle.mm_life.specs.Deeds.{Extends, LifeCall}
-use Rattle.mm_life.specs.DeedHistory.{IsSeen}
-use Rattle.mm_life.specs.IdleParts.{is_idle}
+use Rattle.mm_life.specs.Premises.{IsSeen, is_idle, PartsAreRefusedElsewhere, bytes_unless_idle, call_batches, closing_messages}
+use Rattle.mm_life.specs.Premises.{shown_messages}
 use Rattle.mm_life.specs.Stages.{Does, LifePart, part_calls}
 use Rattle.mm_life.proofs.Above.{opt_first_genuine, opt_first_within, opt_life, seen_unless}
-use Rattle.mm_life.specs.PartsElsewhere.{PartsAreRefusedElsewhere}
-use Rattle.mm_life.specs.Premises.{bytes_unless_idle, call_batches, closing_messages, shown_messages}
 use Rattle.mm_move.specs.declared.cell.MovedCell.TheVariants as moved
 use Rattle.mm_move.specs.declared.link.Link.{Link}
 use Rattle.mm_recovery.specs.FirstStart.{first_history_on}
 use Rattle.mm_sides.specs.Premises.{messages_of_closing, offer_closing_messages}
-use Rattle.mm_sides.specs.Roles.{Live, Role}
-use Rattle.mm_worlds.specs.Handed.{Handed}
-use Rattle.mm_worlds.specs.Laws.{OptWorldIsOne}
-use Rattle.mm_worlds.specs.OptPremises.{AreRegistersTold, IsOptWorldAtStart, TellsRegister, bytes_if_live, opt_messages_from, opt_messages_in}
-use Rattle.mm_worlds.specs.OptPremises.{opt_world_messages, others_values_in, register_messages_in, retirement_messages, world_batches}
-use Rattle.mm_worlds.specs.OptPremises.{world_values}
-use Rattle.mm_worlds.specs.Platforms.{instance_of, key_of, role_of}
-use Rattle.mm_worlds.specs.Premises.{IsHonest, asked_messages, calls_at, calls_in, first_handed, handed_at_end, offers_to}
-use Rattle.mm_worlds.specs.Worlds.{Accepts, Invites, IsWorldLife, Lives, Retires, World, WorldPart, WorldPartLeads, WorldStage, world_after}
-use Rattle.mm_worlds.specs.Worlds.{world_at_end}
+use Rattle.mm_sides.specs.BothSides.{Live, Role}
 use Rattle.mm_worlds.proofs.Accepting.{kept_accepting}
 use Rattle.mm_worlds.proofs.Between.{instance_at}
-use Rattle.mm_worlds.proofs.Inviting.{kept_inviting}
+use Rattle.mm_worlds.proofs.Moving.{kept_inviting}
 use Rattle.mm_worlds.proofs.AnyWorld.{StageGoes, first_cells, first_order, offer_genuine, offer_minded, somewhere}
-use Rattle.mm_worlds.proofs.Kept.{StandsInOrder}
+use Rattle.mm_worlds.proofs.Orders.{StandsInOrder}
 use Rattle.mm_worlds.proofs.Living.{WorldLaws, kept_living}
 use Rattle.mm_worlds.proofs.Names.{register_on}
 use Rattle.mm_worlds.proofs.Retiring.{IsOrWas, kept_retiring}

@@ -8,12 +8,12 @@ use Rattle.mm_platform.specs.Standing.{Standing}
 use Rattle.mm_module.specs.Batch.{Batch}
 use Rattle.mm_module.specs.Meaning.{Meaning}
 use Rattle.mm_model.specs.History.{History}
-use Rattle.mm_model.specs.Instance.{Instance}
+use Rattle.mm_model.specs.Chains.{Instance}
 use Rattle.mm_model.specs.Standing.{IsGenuine}
 use Rattle.mm_model.specs.declared.answer.Answer.{Answer}
 use Rattle.mm_model.specs.declared.answer.BatchAnswer.{BatchAnswer}
 use Rattle.mm_model.specs.declared.refusal.Refusal.{Refusal}
-use Rattle.mm_call.specs.Untouched.{batch_result_of}
+use Rattle.mm_call.specs.CallFinding.{batch_result_of}
 use Rattle.mm_call.proofs.Above.{each_at}
 use Rattle.mm_host.specs.Continuation.{CallsRunOver, IsToldInPart}
 use Rattle.mm_host.specs.Sessions.{ServedCall}
@@ -23,11 +23,9 @@ use Rattle.mm_host.proofs.Above.{TellsCall, told_in_part}
 use Rattle.mm_recovery.specs.declared.fault.HostFault.{HostFault}
 use Rattle.mm_recovery.specs.declared.resuming.Resumed.{Resumed}
 use Rattle.mm_recovery.specs.declared.resuming.Resumed.TheVariants.{Answered}
-use Rattle.mm_life.specs.Deeds.{Calls, Checkpoints, Extends, LifeCall, LosesPower}
-use Rattle.mm_life.specs.OneList.{CallSteps, PartSteps}
+use Rattle.mm_life.specs.Deeds.{Calls, Checkpoints, Extends, LifeCall, LosesPower, first_bytes, served_calls_of, told_calls, untold_calls}
+use Rattle.mm_life.specs.Stages.{CallSteps, PartSteps, Does, Holds, LifePart, PartLeads, Program, part_calls}
 use Rattle.mm_life.specs.Premises.{IsUntagged, issued_snapshot_in, snapshots_of}
-use Rattle.mm_life.specs.SessionCalls.{first_bytes, served_calls_of, told_calls, untold_calls}
-use Rattle.mm_life.specs.Stages.{Does, Holds, LifePart, PartLeads, Program, part_calls}
 use Rattle.mm_life.proofs.Above.{Ends, IsFirstGenuine, rests, session_chain, stops}
 use Rattle.mm_worlds.specs.Premises.{first_offers}
 

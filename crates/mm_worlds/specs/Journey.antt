@@ -1,22 +1,107 @@
 -- A module that goes from a first platform to a second, on to a third, and back to the first, with
--- a call on each: the world that this is.
-use Rattle.std.specs.Prelude.{◌≡◌, ◌⊎◌, ◌==◌, ℕ, List, [], ◌∷◌, Some, Result, Ok, Err, if◌then◌else◌}
-use Rattle.mm_model.specs.InstanceWords.{basic_instance}
-use Rattle.mm_model.specs.Long.{is_long}
+-- a call on each. With it: a module that crosses from one platform to another, with sessions on
+-- either side; a world that meets what is asked of a world.
+use Rattle.std.specs.Prelude.{◌≡◌, ◌⊎◌, ◌==◌, ℕ, List, [], ◌∷◌, Option, Some, Result, Ok, if◌then◌else◌, Err}
+use Rattle.mm_module.specs.Batch.{One}
+use Rattle.mm_module.specs.Meaning.{counter}
+use Rattle.mm_model.specs.Chains.{basic_instance}
+use Rattle.mm_model.specs.Moves.{is_long}
 use Rattle.mm_model.specs.declared.answer.Answer.{Answer}
 use Rattle.mm_model.specs.declared.refusal.Refusal.{Refusal}
-use Rattle.mm_module.specs.Batch.{One}
 use Rattle.mm_life.specs.Deeds.{Calls, Extends, call_of}
+use Rattle.mm_life.specs.OneStore.{add_five}
 use Rattle.mm_life.specs.Stages.{Does}
-use Rattle.mm_worlds.specs.Below.{Basic, blank_cell, Standing, Meaning, first_history, StandsFor, Accepted, Link, MoveRefusal}
-use Rattle.mm_worlds.specs.Crossing.{accepted_at, invited_at, retired_at}
-use Rattle.mm_worlds.specs.Evidence.{HasWorldEvidence}
-use Rattle.mm_worlds.specs.OneWorld.{IsOneWorld}
-use Rattle.mm_worlds.specs.Premises.{first_handed}
-use Rattle.mm_worlds.specs.Worlds.{Accepts, Invites, IsWorldLife, Lives, Retires, World, WorldPart, WorldPartLeads, WorldStage}
+use Rattle.mm_worlds.specs.Below.{Basic, blank_cell, Standing, Meaning, StoreStanding, SessionFault, Accepted, Invited, Link, MoveRefusal}
+use Rattle.mm_worlds.specs.Below.{Holds, ProgramStanding, program_standing, first_history, StandsFor, IsClear, issued_bytes}
+use Rattle.mm_worlds.specs.declared.crossing.Crossing.{Crossing}
 use Rattle.mm_worlds.specs.declared.journey.Journey.{Journey}
 use Rattle.mm_worlds.specs.declared.journey.Leg.{Leg}
 use Rattle.mm_worlds.specs.declared.journey.Pass.{Pass}
+use Rattle.mm_worlds.specs.OneWorld.{HasWorldEvidence, IsOneWorld}
+use Rattle.mm_worlds.specs.Premises.{IsWorldAtStart, first_handed, Accepts, Invites, IsWorldLife, Lives, Retires, World, WorldStage}
+use Rattle.mm_worlds.specs.Premises.{WorldPart, WorldPartLeads, instance_of, AreHonest, world_messages}
+
+-- A module that crosses from one platform to another, with sessions on either side: the world that
+-- this is.
+
+-- what a platform tells, and the objects of a program there
+pub record SiteStanding : Type 0 where
+  pub platform : Standing
+  pub program : ProgramStanding
+
+abbrev pub site_standing : Standing → StoreStanding → (left received : Option (List ℕ))
+    → SiteStanding
+site_standing platform kept left received =
+    record { platform = platform; program = program_standing kept left received }
+
+-- both of them
+pub record BothSites : Type 0 where
+  pub first : SiteStanding
+  pub second : SiteStanding
+
+abbrev pub both_sites : SiteStanding → SiteStanding → BothSites
+both_sites first second = record { first = first; second = second }
+
+-- two platforms alone: each other cell is blank
+abbrev pub two_platforms : Standing → Standing → World
+two_platforms first second =
+    λ at. if at == 0 then first
+    else (if at == 1 then second else record second { cell = Some blank_cell })
+
+-- a session was held on a platform
+abbrev pub session_at : ℕ → (old new : SiteStanding) → Result Unit SessionFault → Standing
+    → WorldStage
+session_at at old new result after = record {
+  at = at;
+  part = Lives (Holds (record { old = old.program; new = new.program; result = result }));
+  after = after;
+}
+
+-- a move was made on it
+abbrev pub invited_at : ℕ → List ℕ → List ℕ → Result Invited MoveRefusal → Standing → WorldStage
+invited_at at nonce key result after =
+    record { at = at; part = Invites nonce key result; after = after }
+
+abbrev pub retired_at : ℕ → List ℕ → List ℕ → Result (List ℕ) MoveRefusal → Standing → WorldStage
+retired_at at nonce offer result after =
+    record { at = at; part = Retires nonce offer result; after = after }
+
+abbrev pub accepted_at : ℕ → List ℕ → Result Accepted MoveRefusal → Standing → WorldStage
+accepted_at at ticket result after =
+    record { at = at; part = Accepts ticket result; after = after }
+
+-- The stages of a crossing, in which this ticket was given: what stands between them is told by no
+-- object at its end.
+pub record CrossingStages (nonce key offer : List ℕ) (old new : BothSites)
+    (result : Crossing) : Type 0 where
+  pub ticket : List ℕ
+  pub served : Standing
+  pub waiting : Standing
+  pub entered : Standing
+  pub stages : List WorldStage
+  pub are : stages ≡
+      session_at 0 old.first new.first result.first served
+      ∷ invited_at 1 nonce key result.invited waiting
+      ∷ retired_at 0 nonce offer (Ok ticket) new.first.platform
+      ∷ accepted_at 1 ticket result.accepted entered
+      ∷ session_at 1 old.second new.second result.second new.second.platform
+      ∷ []
+
+-- A crossing over two platforms is a world's life. Where it begins as a world does, it is one
+-- world, or gives evidence.
+pub record CrossesOver (meaning : Meaning) (link : Link) (nonce key offer : List ℕ)
+    (old new : BothSites) (result : Crossing) : Type 0 where
+  pub made : CrossingStages nonce key offer old new result
+  pub leads : IsWorldLife Basic meaning link
+      (two_platforms old.first.platform old.second.platform) made.stages
+  pub one : (let world = two_platforms old.first.platform old.second.platform in
+      let begun = first_handed Basic meaning link world in
+      IsWorldAtStart Basic meaning link world →
+      IsOneWorld Basic meaning link begun world made.stages leads
+      ⊎ HasWorldEvidence Basic meaning link begun world made.stages leads)
+
+-- A module that goes from a first platform to a second, on to a third, and back to the first, with
+-- a call on each: the world that this is.
 
 -- what is offered next: the snapshot or the ticket that came back, and nothing where none did
 abbrev pub answered_snapshot : Result Answer Refusal → List ℕ
@@ -146,3 +231,49 @@ pub record TravelsRound (meaning : Meaning) (link : Link) (e : Errand) (offer : 
       IsOneWorld Basic meaning link begun (three_platforms old) (journey_stages goes) leads
       ⊎ HasWorldEvidence Basic meaning link begun (three_platforms old) (journey_stages goes)
       leads)
+
+-- A world that meets what is asked of a world: a request is answered on one platform, and the
+-- module moves to another.
+
+-- what was answered and given in a move, by these nonce and key, and what stood behind each stage
+pub record OneMove : Type 0 where
+  pub nonce : List ℕ
+  pub key : List ℕ
+  pub answer : Answer
+  pub invited : Result Invited MoveRefusal
+  pub ticket : List ℕ
+  pub accepted : Result Accepted MoveRefusal
+  pub asked : Standing
+  pub waiting : Standing
+  pub left : Standing
+  pub entered : Standing
+
+-- a request was answered by the first snapshot, and the module left by the snapshot of that answer
+abbrev pub move_stages : Link → World → OneMove → List WorldStage
+move_stages link world m =
+    (let first = issued_bytes (instance_of Basic counter link (world 0)) first_history in
+    record {
+      at = 0;
+      part = Lives (Does (Calls (call_of first add_five (Ok m.answer))));
+      after = m.asked;
+    }
+    ∷ invited_at 1 m.nonce m.key m.invited m.waiting
+    ∷ retired_at 0 m.nonce m.answer.snapshot (Ok m.ticket) m.left
+    ∷ accepted_at 1 m.ticket m.accepted m.entered
+    ∷ [])
+
+-- No two messages of its calls share a digest, nobody else made a tag of what was offered and
+-- accepted, and no nonce was used twice.
+pub record MeetsWorldPremises (link : Link) (world : World) (m : OneMove)
+    (f : IsWorldLife Basic counter link world (move_stages link world m)) : Type 0 where
+  pub clear : IsClear (world_messages Basic counter link world (move_stages link world m) f)
+  pub honest : AreHonest Basic counter link (first_handed Basic counter link world) world
+      (move_stages link world m) f
+
+-- So it is in Basic of each such move of a counter, under all keys, of platforms and of the link,
+-- and whatever the devices do.
+abbrev pub OneMoveMeetsPremises : Type 0
+OneMoveMeetsPremises =
+    (link : Link) (world : World) (m : OneMove)
+    (f : IsWorldLife Basic counter link world (move_stages link world m)) →
+    IsWorldAtStart Basic counter link world → MeetsWorldPremises link world m f

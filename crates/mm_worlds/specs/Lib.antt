@@ -1,12 +1,4 @@
 pub mod Below
-pub mod Platforms
-pub mod Handed
-pub mod Worlds
 pub mod Premises
-pub mod OptPremises
 pub mod OneWorld
-pub mod Evidence
-pub mod Laws
-pub mod Crossing
 pub mod Journey
-pub mod OneMove

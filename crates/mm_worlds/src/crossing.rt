@@ -2,7 +2,7 @@
 //! side.
 
 ghost use Rattle.std.specs.Prelude.{IfOk};
-ghost use Rattle.mm_worlds.specs.Crossing.{CrossesOver, both_sites, site_standing};
+ghost use Rattle.mm_worlds.specs.Journey.{CrossesOver, both_sites, site_standing};
 
 use crate::laws::world_is_one_or_evidence;
 use mm_base::{Sink, Source};

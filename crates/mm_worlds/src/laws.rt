@@ -1,6 +1,6 @@
 //! The laws of a world, each the contract of a function that does nothing, or calls what it needs.
 
-ghost use Rattle.mm_worlds.specs.Laws.{BasicWorldIsOne, EvidenceIsNoPremise, OptEvidenceIsNoPremise, OptWorldIsOne, OptWorldIsOneOrEvidence, WorldIsOneOrEvidence, WorldsKeepPromises};
+ghost use Rattle.mm_worlds.specs.OneWorld.{BasicWorldIsOne, EvidenceIsNoPremise, OptEvidenceIsNoPremise, OptWorldIsOne, OptWorldIsOneOrEvidence, WorldIsOneOrEvidence, WorldsKeepPromises};
 
 use mm_life::parts_are_refused_elsewhere;
 use mm_schedule::laws::runs_keep_promises;

@@ -1,6 +1,6 @@
 //! A law of a world that moves, the contract of a function that calls what it needs.
 
-ghost use Rattle.mm_worlds.specs.OneMove.{OneMoveMeetsPremises};
+ghost use Rattle.mm_worlds.specs.Journey.{OneMoveMeetsPremises};
 
 use mm_outcome::premises_are_met;
 

@@ -1,6 +1,5 @@
 use Rattle.mm_killed_devices.proofs.CellStops.{cell_cycles, cell_steps}
-use Rattle.mm_killed_devices.proofs.PageStops.{page_reads, page_writes}
-use Rattle.mm_killed_devices.proofs.Reaching.{kills_reach}
+use Rattle.mm_killed_devices.proofs.PageStops.{page_reads, page_writes, kills_reach}
 use Rattle.mm_killed_devices.proofs.devices_stop.Goals as goal
 
 pub returns-clause-steps : goal.returns-clause-steps

@@ -1,6 +1,5 @@
 use Rattle.std.proofs.Common.{sym, ◌∙◌}
-use Rattle.memoir_c.proofs.Rooming.{enough_by, only_room}
-use Rattle.memoir_c.proofs.Shortening.{few_by}
+use Rattle.memoir_c.proofs.Rooming.{enough_by, only_room, few_by}
 use Rattle.memoir_c.proofs.asking.memoir_ask.Goals as goal
 
 pub returns-clause-few : goal.returns-clause-few

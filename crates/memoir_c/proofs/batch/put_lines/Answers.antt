@@ -1,7 +1,7 @@
 use Rattle.std.proofs.Common.{◌≡◌, ◌<◌, ◌+◌, ℕ, ◌∙◌, ap, length, subst, sym, take}
 use Rattle.std.specs.Prelude.{option_copied}
-use Rattle.memoir_c.specs.BatchCalls.{lines_of}
-use Rattle.memoir_c.proofs.Lines.{lined_more, some_there}
+use Rattle.memoir_c.specs.CallReplies.{lines_of}
+use Rattle.memoir_c.proofs.Batching.{lined_more, some_there}
 use Rattle.memoir_c.proofs.batch.put_lines.Goals as goal
 use Rattle.memoir_c.proofs.batch.put_lines.Goals.{in-Some+in_ok-put_line, in_default}
 

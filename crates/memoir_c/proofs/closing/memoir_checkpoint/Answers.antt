@@ -1,4 +1,4 @@
-use Rattle.memoir_c.proofs.Shortening.{closing_few_by}
+use Rattle.memoir_c.proofs.Rooming.{closing_few_by}
 use Rattle.memoir_c.proofs.closing.memoir_checkpoint.Goals as goal
 
 pub returns-clause-few : goal.returns-clause-few

@@ -1,5 +1,5 @@
 use Rattle.std.proofs.Common.{arith, length-set, ◌∙◌}
-use Rattle.memoir_c.proofs.Stepping.{none_at, step_more}
+use Rattle.memoir_c.proofs.Batching.{none_at, step_more}
 use Rattle.memoir_c.proofs.made.put_made.Goals as goal
 
 pub returns-in-Err-clause-err : goal.returns-in-Err-clause-err

@@ -1,5 +1,5 @@
 use Rattle.std.proofs.Common.{◌≡◌, length, take}
-use Rattle.memoir_c.specs.Steps.{AreSteps}
+use Rattle.memoir_c.specs.CallReplies.{AreSteps}
 use Rattle.memoir_c.proofs.made.put_made.Given as goal
 
 abbrev pub invariant-steps : goal.invariant-steps

@@ -1,6 +1,5 @@
 use Rattle.std.proofs.Common.{sym, ◌∙◌}
-use Rattle.memoir_c.proofs.Moves.{accepted_enough, accepted_few}
-use Rattle.memoir_c.proofs.Rooming.{only_room}
+use Rattle.memoir_c.proofs.Rooming.{accepted_enough, accepted_few, only_room}
 use Rattle.memoir_c.proofs.moving.memoir_accept.Goals as goal
 
 pub returns-clause-few : goal.returns-clause-few

@@ -1,4 +1,4 @@
-use Rattle.memoir_c.proofs.Moves.{invited_few}
+use Rattle.memoir_c.proofs.Rooming.{invited_few}
 use Rattle.memoir_c.proofs.moving.memoir_invite.Goals as goal
 
 pub returns-clause-few : goal.returns-clause-few

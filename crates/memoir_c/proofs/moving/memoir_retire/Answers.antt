@@ -1,6 +1,5 @@
 use Rattle.std.proofs.Common.{sym, ◌∙◌}
-use Rattle.memoir_c.proofs.Moves.{retired_enough, retired_few}
-use Rattle.memoir_c.proofs.Rooming.{only_room}
+use Rattle.memoir_c.proofs.Rooming.{retired_enough, retired_few, only_room}
 use Rattle.memoir_c.proofs.moving.memoir_retire.Goals as goal
 
 pub returns-clause-few : goal.returns-clause-few

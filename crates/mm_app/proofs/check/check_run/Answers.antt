@@ -1,5 +1,5 @@
 use Rattle.mm_check.specs.Checks.{ChecksRun}
-use Rattle.mm_app.proofs.Stopping.{plays_and_stops}
+use Rattle.mm_app.proofs.Completing.{plays_and_stops}
 use Rattle.mm_app.proofs.check.check_run.Goals as goal
 
 pub returns-clause-checks : goal.returns-clause-checks

@@ -2,20 +2,16 @@ use Rattle.mm_app.proofs.Below.{◌≡◌, ◌∙◌, ℕ, List, Option, ap, map
 use Rattle.mm_app.proofs.Below.{one_command, BlamesSource, DoesOrLacks, Outside, outside, Status, Memory, StopsAs}
 use Rattle.mm_words.specs.declared.fault.WordsFault.{WordsFault}
 use Rattle.mm_words.specs.declared.fault.WordsFault.TheVariants as words
-use Rattle.mm_app.specs.WordsStatus.{words_status}
+use Rattle.mm_app.specs.StatusFacts.{words_status, CantRead, FindsBasic, NeedsInstance, RunsShort, StartsOne}
 use Rattle.mm_words.specs.Commands.{SpellsCommand}
 use Rattle.mm_app.proofs.Below.{Bulk, Checkpoint, Run}
-use Rattle.mm_app.proofs.Blame.{Blamed, Frames, blamed}
-use Rattle.mm_app.proofs.OutputBlame.{output_blamed}
+use Rattle.mm_app.proofs.Blame.{Blamed, Frames, blamed, output_blamed, never_usage}
 use Rattle.mm_app.proofs.Completing.{may_be_done}
 use Rattle.mm_app.proofs.Holding.{Holding, spelled, spelled_where, unheld, unspelled, unspelled_as, unspelled_at, unspelled_where}
-use Rattle.mm_app.proofs.HoldingAll.{holding, much}
-use Rattle.mm_app.proofs.NoUsage.{never_usage}
-use Rattle.mm_app.specs.StatusFacts.{CantRead, FindsBasic, NeedsInstance, RunsShort, StartsOne}
+use Rattle.mm_app.proofs.HoldingStart.{holding, much, headline_of, interleaved_by, moved_by}
 use Rattle.mm_status.specs.declared.status.Status.TheVariants.{Already, Blank, Cell, Kind, Lost, Refused, Short}
 use Rattle.mm_seal.specs.Cell.{blank_cell}
 use Rattle.std.specs.Prelude.{◌≢◌}
-use Rattle.mm_app.proofs.Theorems.{headline_of, interleaved_by, moved_by}
 use Rattle.mm_app.proofs.command.memoir.Given.{Over}
 use Rattle.mm_app.proofs.command.memoir.Goals.{After-done, After-stopped}
 use Rattle.mm_app.proofs.command.memoir.Goals as goal

@@ -1,5 +1,5 @@
 use Rattle.mm_receipt.specs.Reports.{ChecksHonestly}
-use Rattle.mm_app.proofs.Stopping.{plays_and_stops}
+use Rattle.mm_app.proofs.Completing.{plays_and_stops}
 use Rattle.mm_app.proofs.receipts.check_receipts.Goals as goal
 
 pub returns-clause-checks : goal.returns-clause-checks

@@ -1,5 +1,5 @@
-use Rattle.mm_replay.specs.WholeReplay.{ReplaysSchedule}
-use Rattle.mm_app.proofs.Stopping.{plays_and_stops}
+use Rattle.mm_replay.specs.Schedule.{ReplaysSchedule}
+use Rattle.mm_app.proofs.Completing.{plays_and_stops}
 use Rattle.mm_app.proofs.replay.replay_and_stop.Goals as goal
 
 pub returns-clause-replays : goal.returns-clause-replays

@@ -1,5 +1,5 @@
-use Rattle.mm_slots.specs.WholeSlots.{PlaysSlots}
-use Rattle.mm_app.proofs.Stopping.{plays_and_stops}
+use Rattle.mm_slots.specs.Stage.{PlaysSlots}
+use Rattle.mm_app.proofs.Completing.{plays_and_stops}
 use Rattle.mm_app.proofs.slots.play_slots.Goals as goal
 
 pub returns-clause-plays : goal.returns-clause-plays

@@ -1,5 +1,5 @@
-use Rattle.mm_transfer.specs.TransferPlay.{PlaysTransfer}
-use Rattle.mm_app.proofs.Stopping.{plays_and_stops}
+use Rattle.mm_transfer.specs.Stage.{PlaysTransfer}
+use Rattle.mm_app.proofs.Completing.{plays_and_stops}
 use Rattle.mm_app.proofs.transfer.play_transfer.Goals as goal
 
 pub returns-clause-plays : goal.returns-clause-plays

@@ -1,4 +1,4 @@
-use Rattle.mm_at_work.proofs.CommandStages.{checkpoints_are_parts, init_begins, losses_are_parts, runs_are_parts, runs_find}
+use Rattle.mm_at_work.proofs.WholeLives.{checkpoints_are_parts, init_begins, losses_are_parts, runs_are_parts, runs_find}
 use Rattle.mm_at_work.proofs.commands.commands_are_parts_of_life.Goals as goal
 
 pub returns-clause-init : goal.returns-clause-init

@@ -1,5 +1,5 @@
 use Rattle.std.proofs.Common.{refl}
-use Rattle.mm_at_work.proofs.HostRuns.{none_run, one_more_run}
+use Rattle.mm_at_work.proofs.WholeLives.{none_run, one_more_run}
 use Rattle.mm_at_work.proofs.hosts.run_rounds.Goals as goal
 
 pub loop-round-init : goal.loop-round-init

@@ -1,5 +1,5 @@
 use Rattle.mm_host_commands.specs.Outside.{outside}
-use Rattle.mm_at_work.specs.HandedRounds.{HaveRun}
+use Rattle.mm_at_work.specs.Lives.{HaveRun}
 use Rattle.mm_at_work.proofs.hosts.run_rounds.Given as goal
 
 abbrev pub invariant-loop-round : goal.invariant-loop-round

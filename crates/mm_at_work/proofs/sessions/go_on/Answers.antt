@@ -1,4 +1,4 @@
-use Rattle.mm_at_work.proofs.InMemory.{recovers_in_memory}
+use Rattle.mm_at_work.proofs.CommandsKeeping.{recovers_in_memory}
 use Rattle.mm_at_work.specs.Devices.{memory_host}
 use Rattle.mm_at_work.proofs.sessions.go_on.Goals as goal
 

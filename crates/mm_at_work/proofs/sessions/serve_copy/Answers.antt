@@ -1,4 +1,4 @@
-use Rattle.mm_at_work.proofs.OldCopies.{serves_copy}
+use Rattle.mm_at_work.proofs.CommandsKeeping.{serves_copy}
 use Rattle.mm_at_work.specs.Devices.{memory_session}
 use Rattle.mm_at_work.proofs.sessions.serve_copy.Goals as goal
 

@@ -1,4 +1,4 @@
-use Rattle.mm_at_work.proofs.InMemory.{starts_in_memory}
+use Rattle.mm_at_work.proofs.CommandsKeeping.{starts_in_memory}
 use Rattle.mm_at_work.proofs.sessions.start.Goals as goal
 
 pub returns-clause-starts : goal.returns-clause-starts

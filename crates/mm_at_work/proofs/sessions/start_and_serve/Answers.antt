@@ -1,4 +1,4 @@
-use Rattle.mm_at_work.proofs.Beginning.{begins_and_serves}
+use Rattle.mm_at_work.proofs.CommandsKeeping.{begins_and_serves}
 use Rattle.mm_at_work.specs.Devices.{memory_session}
 use Rattle.mm_at_work.proofs.sessions.start_and_serve.Goals as goal
 

@@ -1,5 +1,5 @@
 use Rattle.mm_at_work.proofs.Below.{ap, sym, ◌∙◌, TornMemory}
-use Rattle.mm_at_work.proofs.InMemory.{tells_picked}
+use Rattle.mm_at_work.proofs.CommandsKeeping.{tells_picked}
 use Rattle.mm_at_work.proofs.sessions.tells_cell.Goals as goal
 
 pub returns : goal.returns

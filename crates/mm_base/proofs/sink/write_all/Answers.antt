@@ -1,6 +1,6 @@
 use Rattle.std.proofs.lemmas.Grind.{common_steps}
 use Rattle.std.proofs.Common.{rules, ◌∙◌, arith}
-use Rattle.mm_base.proofs.StreamLemmas.{FrontGoesOut-more, FrontGoesOut-short}
+use Rattle.mm_base.proofs.ReadingLemmas.{FrontGoesOut-more, FrontGoesOut-short}
 use Rattle.mm_base.proofs.sink.write_all.Goals as goal
 
 pub pieces-preserved : goal.pieces-preserved

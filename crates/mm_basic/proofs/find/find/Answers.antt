@@ -1,6 +1,6 @@
 use Rattle.mm_basic.proofs.Below.{ℕ, refl, subst, rules, IsTrue, Ok, Basic, ReadsParts, Blank, Unspelled, Form, Kind, IsCellOf, NoCell}
 use Rattle.mm_basic.proofs.Below.{Both}
-use Rattle.mm_basic.proofs.Findings.{no_offer}
+use Rattle.mm_basic.proofs.Calling.{no_offer}
 use Rattle.mm_basic.proofs.find.find.Goals as goal
 
 pub returns-in-Err-Blank-clause-finds : goal.returns-in-Err-Blank-clause-finds

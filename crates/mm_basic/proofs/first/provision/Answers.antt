@@ -1,5 +1,5 @@
 use Rattle.mm_basic.proofs.Below.{◌≡◌, ℕ, List, IfOk, subst}
-use Rattle.mm_basic.proofs.FirstLaws.{first_cell, first_snapshot}
+use Rattle.mm_basic.proofs.Telling.{first_cell, first_snapshot}
 use Rattle.mm_basic.proofs.first.provision.Goals as goal
 
 pub returns-clause-cell : goal.returns-clause-cell

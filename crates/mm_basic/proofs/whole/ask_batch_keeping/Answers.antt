@@ -1,5 +1,5 @@
 use Rattle.mm_basic.proofs.Below.{◌≡◌, sym, ◌∙◌, false, batch_of, is_long}
-use Rattle.mm_basic.proofs.Going.{asked_by, finished_asks}
+use Rattle.mm_basic.proofs.Asking.{asked_by, finished_asks}
 use Rattle.mm_basic.proofs.whole.ask_batch_keeping.Goals as goal
 
 pub returns : goal.returns

@@ -1,6 +1,6 @@
 use Rattle.mm_basic.proofs.Below.{◌≡◌, false, Ok, Err, One, basic_operation, is_long}
 use Rattle.mm_call.proofs.Above.{reads_blamed}
-use Rattle.mm_basic.proofs.Going.{prepared}
+use Rattle.mm_basic.proofs.Asking.{prepared}
 use Rattle.mm_basic.proofs.Telling.{quiet, reads_extend}
 use Rattle.mm_basic.proofs.whole.prepare.Goals as goal
 

@@ -1,6 +1,6 @@
 use Rattle.mm_machine.specs.Acts.{remaining_acts}
 use Rattle.mm_call.proofs.Below.{refl, Answered}
-use Rattle.mm_call.proofs.Machine.{commits_told}
+use Rattle.mm_call.proofs.Turning.{commits_told}
 use Rattle.mm_call.proofs.whole.commit_found.Goals as goal
 
 pub returns-in-Repeat-clause-commits : goal.returns-in-Repeat-clause-commits

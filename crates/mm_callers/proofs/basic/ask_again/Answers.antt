@@ -1,6 +1,6 @@
 use Rattle.mm_callers.proofs.Below.{refl, at_once}
-use Rattle.mm_callers.proofs.BasicCalls.{asked_once, asked_after_fault}
-use Rattle.mm_callers.proofs.Counting.{counts_call, counted_again}
+use Rattle.mm_callers.proofs.Leaving.{asked_once, asked_after_fault}
+use Rattle.mm_callers.proofs.Preparing.{counts_call, counted_again}
 use Rattle.mm_callers.proofs.basic.ask_again.Goals as goal
 
 pub returns-in-Ok-clause-again : goal.returns-in-Ok-clause-again

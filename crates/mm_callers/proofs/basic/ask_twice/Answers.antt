@@ -1,6 +1,6 @@
 use Rattle.mm_callers.proofs.Below.{refl, batch_answer_of, alone, both}
-use Rattle.mm_callers.proofs.BasicCalls.{refused_first, asked_twice}
-use Rattle.mm_callers.proofs.Counting.{counts_call}
+use Rattle.mm_callers.proofs.Leaving.{refused_first, asked_twice}
+use Rattle.mm_callers.proofs.Preparing.{counts_call}
 use Rattle.mm_callers.proofs.basic.ask_twice.Goals as goal
 
 pub returns-in-Ok-clause-twice : goal.returns-in-Ok-clause-twice

@@ -1,6 +1,6 @@
 use Rattle.mm_callers.proofs.Below.{refl, batch_answer_of, replied}
 use Rattle.mm_callers.specs.Counts.{in_first, in_closing, in_second}
-use Rattle.mm_callers.proofs.Counting.{counts_call}
+use Rattle.mm_callers.proofs.Preparing.{counts_call}
 use Rattle.mm_callers.proofs.OptRepeating.{repeats_behind, never_twice, refused_first, refused_closing, refused_again}
 use Rattle.mm_callers.proofs.closing.ask_close_repeat.Goals as goal
 

@@ -1,5 +1,5 @@
 use Rattle.mm_callers.proofs.Below.{basic_instance, opt_instance}
-use Rattle.mm_callers.proofs.Completing.{complete}
+use Rattle.mm_callers.proofs.OptCalls.{complete}
 use Rattle.mm_callers.proofs.laws.calls_are_complete.Goals as goal
 
 pub returns-clause-basic : goal.returns-clause-basic

@@ -1,7 +1,6 @@
 use Rattle.mm_callers.proofs.Below.{batch_result_of}
-use Rattle.mm_callers.proofs.OptCalls.{asked_once, asked_after_fault}
-use Rattle.mm_callers.proofs.Counting.{counts_call, counted_again}
-use Rattle.mm_callers.proofs.OptComplete.{asked_quietly, asked_faultless}
+use Rattle.mm_callers.proofs.OptCalls.{asked_once, asked_after_fault, asked_quietly, asked_faultless}
+use Rattle.mm_callers.proofs.Preparing.{counts_call, counted_again}
 use Rattle.mm_callers.proofs.opt.ask_after_fault.Goals as goal
 
 pub returns-in-Ok-clause-once : goal.returns-in-Ok-clause-once

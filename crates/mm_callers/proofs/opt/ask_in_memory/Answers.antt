@@ -1,6 +1,6 @@
 use Rattle.mm_callers.proofs.Below.{batch_result_of}
-use Rattle.mm_callers.proofs.Counting.{counts_ended}
-use Rattle.mm_callers.proofs.OptComplete.{asked_in_memory}
+use Rattle.mm_callers.proofs.Preparing.{counts_ended}
+use Rattle.mm_callers.proofs.OptCalls.{asked_in_memory}
 use Rattle.mm_callers.proofs.opt.ask_in_memory.Goals as goal
 
 pub returns-clause-complete : goal.returns-clause-complete

@@ -1,6 +1,5 @@
-use Rattle.mm_callers.proofs.Counting.{counts_call}
-use Rattle.mm_callers.proofs.OptCalls.{asked_once, asked_welcome}
-use Rattle.mm_callers.proofs.OptComplete.{asked_quietly}
+use Rattle.mm_callers.proofs.Preparing.{counts_call}
+use Rattle.mm_callers.proofs.OptCalls.{asked_once, asked_welcome, asked_quietly}
 use Rattle.mm_callers.proofs.opt.ask_once.Goals as goal
 
 pub returns-clause-once : goal.returns-clause-once

@@ -1,6 +1,6 @@
 use Rattle.std.specs.Prelude.{Ok}
 use Rattle.mm_module.specs.Batch.{One}
-use Rattle.mm_opt.specs.Operation.{opt_operation}
+use Rattle.mm_opt.specs.AskPromise.{opt_operation}
 use Rattle.mm_callers.proofs.Preparing.{prepared_stands}
 use Rattle.mm_callers.proofs.parts.commit_first_in_opt.Goals as goal
 

@@ -1,6 +1,6 @@
 use Rattle.mm_check.proofs.Below.{ℕ, ◌+◌, ◌∙◌, sym, ap, agreement_of, arith}
 use Rattle.mm_check.specs.declared.verdicts.Agreement.TheVariants.{Differ}
-use Rattle.mm_check.proofs.ComparingLaws.{next_line, surplus}
+use Rattle.mm_check.proofs.CheckingLaws.{next_line, surplus}
 use Rattle.mm_check.proofs.difference.difference.Goals as goal
 
 pub returns-then-not-is_at : goal.returns-then-not-is_at

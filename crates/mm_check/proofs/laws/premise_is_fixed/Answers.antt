@@ -1,4 +1,4 @@
-use Rattle.mm_check.proofs.FixedLaws.{premise_fixed}
+use Rattle.mm_check.proofs.ClearLaws.{premise_fixed}
 use Rattle.mm_check.proofs.laws.premise_is_fixed.Goals as goal
 
 pub returns : goal.returns

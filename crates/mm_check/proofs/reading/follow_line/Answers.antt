@@ -1,4 +1,4 @@
-use Rattle.mm_check.proofs.RunLaws.{is_run_next}
+use Rattle.mm_check.proofs.FewLaws.{is_run_next}
 use Rattle.mm_check.proofs.reading.follow_line.Goals as goal
 
 pub returns-in-Ok-clause-runs : goal.returns-in-Ok-clause-runs

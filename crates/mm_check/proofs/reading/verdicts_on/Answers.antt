@@ -1,4 +1,4 @@
-use Rattle.mm_check.proofs.RunLaws.{lines_short}
+use Rattle.mm_check.proofs.FewLaws.{lines_short}
 use Rattle.mm_check.proofs.reading.verdicts_on.Goals as goal
 
 pub difference-requires : goal.difference-requires

@@ -1,4 +1,4 @@
-use Rattle.mm_client.proofs.ServedLaws.{basic_served}
+use Rattle.mm_client.proofs.ServedLives.{basic_served}
 use Rattle.mm_client.proofs.laws.basic_clients_are_served_once.Goals as goal
 
 pub returns : goal.returns

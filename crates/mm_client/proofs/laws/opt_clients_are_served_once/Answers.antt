@@ -1,4 +1,4 @@
-use Rattle.mm_client.proofs.ServedLaws.{opt_served}
+use Rattle.mm_client.proofs.ServedLives.{opt_served}
 use Rattle.mm_client.proofs.laws.opt_clients_are_served_once.Goals as goal
 
 pub returns : goal.returns

@@ -1,5 +1,5 @@
-use Rattle.mm_recovery.specs.Init.{devices}
-use Rattle.mm_client.specs.Hearing.{memory_at}
+use Rattle.mm_recovery.specs.FirstStart.{devices}
+use Rattle.mm_client.specs.ClientLife.{memory_at}
 use Rattle.mm_client.specs.LocalLife.{HoldsSession, local_standing}
 use Rattle.mm_client.proofs.LocalLives.{rounds_on, serves_rounds}
 use Rattle.mm_client.proofs.local.serve_local_client.Goals as goal

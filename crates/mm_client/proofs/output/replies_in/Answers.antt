@@ -1,8 +1,8 @@
 use Rattle.std.proofs.Common.{◌∙◌, ◌∷◌, ◌++◌, [], ℕ, List, Some, None, sym, ap, append_assoc}
 use Rattle.std.proofs.lemmas.List.{append-nil}
 use Rattle.mm_client.specs.declared.heard.HeardReply.{HeardReply}
-use Rattle.mm_client.specs.Output.{replies_in}
-use Rattle.mm_client.proofs.Outputs.{replies_in-unbroken, step_on}
+use Rattle.mm_client.specs.LocalLife.{replies_in}
+use Rattle.mm_client.proofs.Hearings.{replies_in-unbroken, step_on}
 use Rattle.mm_client.proofs.output.replies_in.Goals as goal
 
 pub lines-preserved-in_ok-push : goal.lines-preserved-in_ok-push

@@ -1,5 +1,5 @@
 use Rattle.std.proofs.Common.{◌≡◌, ◌++◌, length}
-use Rattle.mm_client.specs.Output.{replies_in}
+use Rattle.mm_client.specs.LocalLife.{replies_in}
 use Rattle.mm_client.proofs.output.replies_in.Given as goal
 
 abbrev pub invariant-lines : goal.invariant-lines

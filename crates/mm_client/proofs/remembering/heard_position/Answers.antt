@@ -1,5 +1,5 @@
 use Rattle.std.proofs.Common.{sym}
-use Rattle.mm_client.proofs.RoundLaws.{heard_at_end}
+use Rattle.mm_client.proofs.LocalLives.{heard_at_end}
 use Rattle.mm_client.proofs.remembering.heard_position.Goals as goal
 
 pub returns-in-Some : goal.returns-in-Some

@@ -1,5 +1,5 @@
-use Rattle.mm_client.specs.Hearing.{memory_at}
-use Rattle.mm_client.proofs.RoundLaws.{lives_then}
+use Rattle.mm_client.specs.ClientLife.{memory_at}
+use Rattle.mm_client.proofs.LocalLives.{lives_then}
 use Rattle.mm_client.proofs.serving.live_as_client.Goals as goal
 
 pub loop-round-preserved : goal.loop-round-preserved

@@ -1,5 +1,4 @@
-use Rattle.mm_client.specs.Hearing.{memory_at}
-use Rattle.mm_client.specs.Rounds.{LivesAsClient}
+use Rattle.mm_client.specs.ClientLife.{memory_at, LivesAsClient}
 use Rattle.mm_client.proofs.serving.live_as_client.Given as goal
 
 abbrev pub invariant-loop-round : goal.invariant-loop-round

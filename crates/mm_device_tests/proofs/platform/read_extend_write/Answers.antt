@@ -1,6 +1,5 @@
 use Rattle.std.specs.Result.{result_err}
-use Rattle.mm_platform.specs.Steps.{ReadCell, WriteCell, ExtendRegister}
-use Rattle.mm_platform.specs.Standing.{plan_after}
+use Rattle.mm_platform.specs.Standing.{ReadCell, WriteCell, ExtendRegister, plan_after}
 use Rattle.mm_platform.proofs.Above.{plan_then, told_failed, told_last, told_then}
 use Rattle.mm_platform.specs.CallLaws.{first_failed, second_failed, all_called}
 use Rattle.mm_device_tests.proofs.platform.read_extend_write.Goals as goal

@@ -1,5 +1,5 @@
 use Rattle.mm_evidence.proofs.Below.{instance_by, IsLawful, Meaning, Variant, Basic, Opt, List, ℕ, Instance}
-use Rattle.mm_evidence.proofs.Forged.{forged_new}
+use Rattle.mm_evidence.proofs.Fronts.{forged_new}
 use Rattle.mm_evidence.proofs.laws.forged_offers_are_new.Goals as goal
 
 lawful_by : (variant : Variant) (meaning : Meaning) (key barrier : List ℕ) → IsLawful meaning

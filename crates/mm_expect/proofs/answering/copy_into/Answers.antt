@@ -1,6 +1,6 @@
 use Rattle.mm_expect.proofs.Below.{◌≡◌, ◌<◌, ◌+◌, sym, ap, ◌∙◌, subst, ℕ, length, take}
 use Rattle.std.specs.Prelude.{option_copied}
-use Rattle.mm_expect.proofs.CopyLaws.{copied_more, some_there}
+use Rattle.mm_expect.proofs.CallLaws.{copied_more, some_there}
 use Rattle.mm_expect.proofs.answering.copy_into.Goals as goal
 use Rattle.mm_expect.proofs.answering.copy_into.Goals.{in-Some+in_ok-one+in_ok-push, in_default}
 

@@ -1,7 +1,7 @@
 use Rattle.mm_expect.proofs.Below.{sym, ap, ◌∙◌, ◌++◌, batch_of, reply_of, ending_of, chronicle_instance}
 use Rattle.mm_call.specs.CallPremises.{right_messages}
 use Rattle.mm_expect.proofs.CallLaws.{went_by_call}
-use Rattle.mm_expect.proofs.FindLaws.{right_is}
+use Rattle.mm_expect.proofs.EventLaws.{right_is}
 use Rattle.mm_expect.proofs.expecting.call_and_list.Goals as goal
 
 pub returns-clause-went : goal.returns-clause-went

@@ -1,7 +1,7 @@
 use Rattle.mm_expect.proofs.Below.{ap, ◌∙◌, None, EventReply}
 use Rattle.mm_schedule.specs.declared.reply.Reply.{Reply}
-use Rattle.mm_outcome.specs.Folds.{closing_reply}
-use Rattle.mm_expect.specs.Closings.{ending_of_closing}
+use Rattle.mm_outcome.specs.Premises.{closing_reply}
+use Rattle.mm_expect.specs.ChronicleView.{ending_of_closing}
 use Rattle.mm_expect.proofs.CallLaws.{went_by_checkpoint}
 use Rattle.mm_expect.proofs.expecting.follow_checkpoint.Goals as goal
 

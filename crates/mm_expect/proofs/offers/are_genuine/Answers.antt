@@ -1,9 +1,7 @@
 use Rattle.mm_expect.proofs.Below.{ap, ◌∙◌, content_of, chronicle_instance}
 use Rattle.std.specs.Result.{result_ok}
-use Rattle.mm_expect.specs.RightOffer.{told_offer}
-use Rattle.mm_expect.proofs.FindLaws.{right_is}
-use Rattle.mm_expect.proofs.GenuineLaws.{offers_decided}
-use Rattle.mm_expect.proofs.JudgeLaws.{genuine_some, names_there}
+use Rattle.mm_expect.specs.ExpectedState.{told_offer}
+use Rattle.mm_expect.proofs.EventLaws.{right_is, offers_decided, genuine_some, names_there}
 use Rattle.mm_expect.proofs.offers.are_genuine.Goals as goal
 
 pub returns-in-Err : goal.returns-in-Err

@@ -1,5 +1,5 @@
 use Rattle.mm_expect.proofs.Below.{ap, chronicle_instance, offered_bytes}
-use Rattle.mm_expect.proofs.JudgeLaws.{decided_issued, decided_some}
+use Rattle.mm_expect.proofs.EventLaws.{decided_issued, decided_some}
 use Rattle.mm_expect.proofs.offers.is_genuine_offer.Goals as goal
 
 pub returns-in-Flip : goal.returns-in-Flip

@@ -1,5 +1,5 @@
 use Rattle.mm_expect.proofs.Below.{basic_instance, opt_instance}
-use Rattle.mm_expect.proofs.GenuineLaws.{offers_decided, issued_genuine}
+use Rattle.mm_expect.proofs.EventLaws.{offers_decided, issued_genuine}
 use Rattle.mm_expect.proofs.offers.offers_are_decided.Goals as goal
 
 pub returns-clause-offers : goal.returns-clause-offers

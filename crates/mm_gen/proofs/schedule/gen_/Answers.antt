@@ -1,5 +1,5 @@
 use Rattle.mm_gen.proofs.Below.{◌≡◌, ◌∙◌, ◌+◌, ap, ChaCha, key_of}
-use Rattle.mm_gen.proofs.Going.{begins, goes_on, whole_text}
+use Rattle.mm_gen.proofs.Replaying.{begins, goes_on, whole_text}
 use Rattle.mm_gen.proofs.schedule.gen_.Goals as goal
 
 pub turns-preserved : goal.turns-preserved

@@ -1,5 +1,5 @@
 use Rattle.mm_gen.proofs.Below.{◌≡◌, ◌-◌, key_of, seed_from}
-use Rattle.mm_gen.proofs.Going.{Going}
+use Rattle.mm_gen.proofs.Replaying.{Going}
 use Rattle.mm_gen.proofs.schedule.gen_.Given as goal
 
 -- stream 0 of the number's key, and the schedule so far

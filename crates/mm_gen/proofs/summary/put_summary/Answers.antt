@@ -1,6 +1,6 @@
 use Rattle.mm_gen.proofs.Below.{◌≡◌, ℕ, List, [], ◌∷◌, ◌++◌, refl, append_assoc, end_line, joined_lines}
 use Rattle.mm_gen.specs.declared.summary.Summary.{Summary}
-use Rattle.mm_gen.specs.Summaries.{end_text, events_text, other_counts, replies_text, told_counts}
+use Rattle.mm_gen.specs.Schedules.{end_text, events_text, other_counts, replies_text, told_counts}
 use Rattle.mm_gen.proofs.summary.put_summary.Goals as goal
 
 -- five lines put one after another

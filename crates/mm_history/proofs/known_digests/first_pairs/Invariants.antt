@@ -1,5 +1,5 @@
 use Rattle.std.specs.List.{All}
-use Rattle.mm_history.specs.KnownPairs.{IsKnownPair}
+use Rattle.mm_history.specs.Naming.{IsKnownPair}
 use Rattle.mm_history.proofs.known_digests.first_pairs.Given as goal
 
 abbrev pub invariant-pairs : goal.invariant-pairs

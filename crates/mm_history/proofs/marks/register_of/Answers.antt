@@ -1,6 +1,6 @@
 use Rattle.mm_history.proofs.Below.{◌∙◌, sym, ap, kept_entry, reads_zero, register_of, extension_value, values_of}
 use Rattle.mm_digest.specs.Messages.{extended_digest_of}
-use Rattle.mm_model.specs.HistoryLaws.{register_more}
+use Rattle.mm_model.specs.SegmentLaws.{register_more}
 use Rattle.mm_history.proofs.TakenLaws.{more_taken}
 use Rattle.mm_history.proofs.marks.register_of.Goals as goal
 

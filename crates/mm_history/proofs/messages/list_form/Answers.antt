@@ -1,6 +1,6 @@
 use Rattle.mm_history.proofs.Below.{List, ℕ, [], ◌∷◌, ◌++◌, ap}
 use Rattle.mm_digest.specs.Messages.{anchored_message}
-use Rattle.mm_history.proofs.MessageLaws.{listed_behind}
+use Rattle.mm_history.proofs.TakenLaws.{listed_behind}
 use Rattle.mm_history.proofs.messages.list_form.Goals as goal
 
 pub returns : goal.returns

@@ -2,8 +2,8 @@ use Rattle.mm_history.proofs.Below.{List, ℕ, [], ◌∷◌, ap, sym, ◌∙◌
 use Rattle.mm_module.specs.Batches.{batch_of}
 use Rattle.mm_model.specs.Chains.{guard_message}
 use Rattle.mm_model.specs.Messages.{point_messages}
-use Rattle.mm_history.specs.OfferMessages.{messages_at_place}
-use Rattle.mm_history.proofs.MessageLaws.{listed_behind}
+use Rattle.mm_history.specs.Naming.{messages_at_place}
+use Rattle.mm_history.proofs.TakenLaws.{listed_behind}
 use Rattle.mm_history.proofs.messages.list_place.Goals as goal
 
 pub returns-in_ok-list_known-in-Opt : goal.returns-in_ok-list_known-in-Opt

@@ -1,5 +1,5 @@
 use Rattle.mm_history.proofs.Below.{◌∙◌, ap, anchored_digest_of, register_of, values_of, kept_entries, anchor_at}
-use Rattle.mm_model.specs.DigestLaws.{anchor-nil}
+use Rattle.mm_model.specs.ListLaws.{anchor-nil}
 use Rattle.mm_history.proofs.TakenLaws.{more_taken, anchor_more}
 use Rattle.mm_history.proofs.naming.anchor_at.Goals as goal
 

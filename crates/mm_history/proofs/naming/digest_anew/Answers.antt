@@ -1,5 +1,5 @@
 use Rattle.mm_history.proofs.Below.{◌∙◌, ap, sym, length, kept_batches}
-use Rattle.mm_history.specs.Waymarks.{digest_behind}
+use Rattle.mm_history.specs.Naming.{digest_behind}
 use Rattle.mm_history.proofs.KnownLaws.{none_known}
 use Rattle.mm_history.proofs.naming.digest_anew.Goals as goal
 

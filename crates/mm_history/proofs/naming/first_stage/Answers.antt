@@ -1,6 +1,6 @@
 use Rattle.mm_history.proofs.Below.{◌∙◌, true}
-use Rattle.mm_model.specs.PlacesWords.{digest_of}
-use Rattle.mm_model.specs.DigestLaws.{anchor-nil}
+use Rattle.mm_model.specs.Standing.{digest_of}
+use Rattle.mm_model.specs.ListLaws.{anchor-nil}
 use Rattle.mm_history.proofs.naming.first_stage.Goals as goal
 
 pub returns : goal.returns

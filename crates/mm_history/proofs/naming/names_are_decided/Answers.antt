@@ -1,5 +1,5 @@
 use Rattle.mm_history.proofs.Below.{refl}
-use Rattle.mm_model.specs.InstanceWords.{basic_instance, opt_instance}
+use Rattle.mm_model.specs.Chains.{basic_instance, opt_instance}
 use Rattle.mm_history.proofs.NameLaws.{named_by}
 use Rattle.mm_history.proofs.naming.names_are_decided.Goals as goal
 

@@ -1,7 +1,7 @@
 use Rattle.mm_history.proofs.Below.{ℕ, List, ◌∙◌, ap, sym, subst, take, IsTrue, meaning_of, state_after-is_spelled, requests_of, is_long}
 use Rattle.mm_history.proofs.Below.{kept_batch, kept_batches, members_of, state_after}
 use Rattle.mm_modules.specs.ModulesLaws.{any_is_lawful}
-use Rattle.mm_module.specs.MeaningWords.{state_from}
+use Rattle.mm_module.specs.Meaning.{state_from}
 use Rattle.mm_history.proofs.TakenLaws.{more_taken, state_more, short_at}
 use Rattle.mm_history.proofs.naming.state_after.Goals as goal
 

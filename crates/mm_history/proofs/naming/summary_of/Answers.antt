@@ -1,6 +1,5 @@
 use Rattle.mm_history.proofs.Below.{◌∙◌, ap, kept_batch, link, summary_of}
-use Rattle.mm_model.specs.DigestLaws.{summary-nil}
-use Rattle.mm_model.specs.DigestLaws.{summary-push}
+use Rattle.mm_model.specs.ListLaws.{summary-nil, summary-push}
 use Rattle.mm_history.proofs.TakenLaws.{more_taken}
 use Rattle.mm_history.proofs.naming.summary_of.Goals as goal
 

@@ -2,7 +2,7 @@ use Rattle.mm_history.proofs.Below.{◌≡◌, ◌∙◌, ◌++◌, ◌+◌, [],
 use Rattle.mm_history.proofs.Below.{kept_entry, kept_entries, kept_segments, items_of_all}
 use Rattle.std.specs.List.{AllByRecursion}
 use Rattle.std.proofs.lemmas.Option.{slice_get_read}
-use Rattle.mm_history.specs.Waymarks.{IsStage}
+use Rattle.mm_history.specs.Naming.{IsStage}
 use Rattle.mm_history.proofs.KnownLaws.{entries_more, sum_then}
 use Rattle.mm_history.proofs.PlaceLaws.{segments_are}
 use Rattle.mm_history.proofs.waymarks.entries_in.Goals as goal

@@ -1,4 +1,4 @@
-use Rattle.mm_worlds.specs.Crossing.{site_standing}
+use Rattle.mm_worlds.specs.Journey.{site_standing}
 use Rattle.mm_honest_worlds.proofs.Crossings.{carries}
 use Rattle.mm_honest_worlds.proofs.carrying.carry_over.Goals as goal
 

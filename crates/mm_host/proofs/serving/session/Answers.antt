@@ -1,6 +1,5 @@
-use Rattle.mm_host.proofs.Counting.{session_counted, session_writes}
+use Rattle.mm_host.proofs.Counting.{session_counted, session_writes, session_continues}
 use Rattle.mm_host.proofs.RunningOnce.{session_runs_once}
-use Rattle.mm_host.proofs.Continues.{session_continues}
 use Rattle.mm_host.proofs.Lines.{spares_lines}
 use Rattle.mm_host.proofs.serving.session.Goals as goal
 

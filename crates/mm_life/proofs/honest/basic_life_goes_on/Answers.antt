@@ -1,4 +1,4 @@
-use Rattle.mm_life.proofs.HonestLaws.{basic_goes_on}
+use Rattle.mm_life.proofs.HonestLife.{basic_goes_on}
 use Rattle.mm_life.proofs.honest.basic_life_goes_on.Goals as goal
 
 pub returns : goal.returns

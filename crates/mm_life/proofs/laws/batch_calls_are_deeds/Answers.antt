@@ -1,4 +1,4 @@
-use Rattle.mm_life.proofs.BatchDeeds.{batch_calls_lead, parts_lead}
+use Rattle.mm_life.proofs.KilledPrograms.{batch_calls_lead, parts_lead}
 use Rattle.mm_life.proofs.laws.batch_calls_are_deeds.Goals as goal
 
 pub returns-clause-calls : goal.returns-clause-calls

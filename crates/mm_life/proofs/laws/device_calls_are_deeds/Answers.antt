@@ -1,4 +1,4 @@
-use Rattle.mm_life.proofs.DoingLaws.{cycles_are_deeds, reads_are_deeds}
+use Rattle.mm_life.proofs.KilledPrograms.{cycles_are_deeds, reads_are_deeds}
 use Rattle.mm_life.proofs.laws.device_calls_are_deeds.Goals as goal
 
 pub returns-clause-reads : goal.returns-clause-reads

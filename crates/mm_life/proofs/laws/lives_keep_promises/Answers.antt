@@ -1,4 +1,4 @@
-use Rattle.mm_life.proofs.Tellings.{lives_keep}
+use Rattle.mm_life.proofs.Living.{lives_keep}
 use Rattle.mm_life.proofs.laws.lives_keep_promises.Goals as goal
 
 pub returns : goal.returns

@@ -1,4 +1,4 @@
-use Rattle.mm_life.proofs.Tellings.{lives_tell}
+use Rattle.mm_life.proofs.Living.{lives_tell}
 use Rattle.mm_life.proofs.laws.lives_tell_what_was_said.Goals as goal
 
 pub returns : goal.returns

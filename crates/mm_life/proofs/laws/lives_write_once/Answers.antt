@@ -1,4 +1,4 @@
-use Rattle.mm_life.proofs.Writing.{basic_lives_write, opt_lives_write}
+use Rattle.mm_life.proofs.Longer.{basic_lives_write, opt_lives_write}
 use Rattle.mm_life.proofs.laws.lives_write_once.Goals as goal
 
 pub returns-clause-basic : goal.returns-clause-basic

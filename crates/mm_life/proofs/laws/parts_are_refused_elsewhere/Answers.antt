@@ -1,4 +1,4 @@
-use Rattle.mm_life.proofs.NotThere.{parts_are_refused}
+use Rattle.mm_life.proofs.Chains.{parts_are_refused}
 use Rattle.mm_life.proofs.laws.parts_are_refused_elsewhere.Goals as goal
 
 pub returns : goal.returns

@@ -1,4 +1,4 @@
-use Rattle.mm_life.proofs.Offering.{offer_slots}
+use Rattle.mm_life.proofs.KilledPrograms.{offer_slots}
 use Rattle.mm_life.proofs.laws.sessions_offer_slots.Goals as goal
 
 pub returns : goal.returns

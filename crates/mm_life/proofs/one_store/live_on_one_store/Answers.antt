@@ -1,9 +1,9 @@
 use Rattle.std.proofs.Common.{ap}
 use Rattle.std.specs.Result.{result_err}
 use Rattle.mm_digest.specs.declared.variant.Variant.TheVariants.{Basic}
-use Rattle.mm_recovery.specs.Init.{devices}
+use Rattle.mm_recovery.specs.FirstStart.{devices}
 use Rattle.mm_life.specs.OneStore.{life_standing}
-use Rattle.mm_life.proofs.HonestCaller.{lives_on_one_store}
+use Rattle.mm_life.proofs.HonestLife.{lives_on_one_store}
 use Rattle.mm_life.proofs.one_store.live_on_one_store.Goals as goal
 
 pub returns-in-Ok-cycle : goal.returns-in-Ok-cycle

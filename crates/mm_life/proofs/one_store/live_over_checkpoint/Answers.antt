@@ -1,7 +1,7 @@
 use Rattle.std.proofs.Common.{ap}
 use Rattle.std.specs.Result.{result_err}
 use Rattle.mm_digest.specs.declared.variant.Variant.TheVariants.{Opt}
-use Rattle.mm_recovery.specs.Init.{devices}
+use Rattle.mm_recovery.specs.FirstStart.{devices}
 use Rattle.mm_recovery.proofs.Above.{is_checkpoint}
 use Rattle.mm_life.specs.OneStore.{life_standing}
 use Rattle.mm_life.proofs.OptCaller.{lives_over_checkpoint}

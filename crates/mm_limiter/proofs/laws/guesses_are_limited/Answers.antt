@@ -1,4 +1,4 @@
-use Rattle.mm_limiter.specs.GuessLaws.{guesses-limited}
+use Rattle.mm_limiter.specs.LimiterLaws.{guesses-limited}
 use Rattle.mm_limiter.proofs.laws.guesses_are_limited.Goals as goal
 
 pub returns : goal.returns

@@ -1,5 +1,5 @@
-use Rattle.mm_platform.specs.Steps.{ExtendRegister, WriteCell}
-use Rattle.mm_machine.proofs.Ending.{ends_at_last}
+use Rattle.mm_platform.specs.Standing.{ExtendRegister, WriteCell}
+use Rattle.mm_machine.proofs.Joining.{ends_at_last}
 use Rattle.mm_machine.proofs.finishing.finish_change.Goals as goal
 
 pub returns-in-Extending : goal.returns-in-Extending

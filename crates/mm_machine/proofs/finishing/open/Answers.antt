@@ -1,5 +1,5 @@
 use Rattle.std.specs.Prelude.{refl}
-use Rattle.mm_machine.specs.OpEnds.{goes_on, breaks_off}
+use Rattle.mm_machine.specs.OpSteps.{goes_on, breaks_off}
 use Rattle.mm_machine.proofs.finishing.open.Goals as goal
 
 pub returns-in-Err : goal.returns-in-Err

@@ -1,7 +1,7 @@
 use Rattle.std.specs.Prelude.{refl}
-use Rattle.mm_platform.specs.Steps.{WriteCell}
-use Rattle.mm_machine.specs.OpEnds.{goes_on, breaks_off}
-use Rattle.mm_machine.proofs.Ending.{ends_at_last}
+use Rattle.mm_platform.specs.Standing.{WriteCell}
+use Rattle.mm_machine.specs.OpSteps.{goes_on, breaks_off}
+use Rattle.mm_machine.proofs.Joining.{ends_at_last}
 use Rattle.mm_machine.proofs.finishing.place_and_write.Goals as goal
 
 pub returns-in-Err : goal.returns-in-Err

@@ -1,4 +1,4 @@
-use Rattle.mm_machine.proofs.Preparing.{stands_read}
+use Rattle.mm_machine.proofs.Joining.{stands_read}
 use Rattle.mm_machine.proofs.reading.prepared_seen.Goals as goal
 
 pub prepared-requires : goal.prepared-requires

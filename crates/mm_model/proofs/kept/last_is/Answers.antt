@@ -1,6 +1,6 @@
 use Rattle.std.proofs.Common.{◌≡◌, ◌∙◌, ◌+◌, ◌-◌, length, arith}
 use Rattle.mm_module.specs.Batches.{batch_of}
-use Rattle.mm_model.proofs.KeptLaws.{last_at}
+use Rattle.mm_model.proofs.Moves.{last_at}
 use Rattle.mm_model.proofs.kept.last_is.Goals as goal
 
 pub returns : goal.returns

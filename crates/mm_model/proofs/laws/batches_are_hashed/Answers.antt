@@ -1,5 +1,5 @@
 use Rattle.std.proofs.Common.{refl}
-use Rattle.mm_digest.specs.MessagesWords.{successor_digest_of, secured_digest_of, successor_batch_digest_of, secured_batch_digest_of}
+use Rattle.mm_digest.specs.Messages.{successor_digest_of, secured_digest_of, successor_batch_digest_of, secured_batch_digest_of}
 use Rattle.mm_model.specs.Chains.{link, guard}
 use Rattle.mm_model.proofs.laws.batches_are_hashed.Goals as goal
 

@@ -1,4 +1,4 @@
-use Rattle.mm_model.specs.DigestLaws.{same_links, same_guards}
+use Rattle.mm_model.specs.ListLaws.{same_links, same_guards}
 use Rattle.mm_model.proofs.laws.batches_are_told_apart.Goals as goal
 
 pub returns-clause-link : goal.returns-clause-link

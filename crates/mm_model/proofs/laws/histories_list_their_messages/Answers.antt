@@ -1,4 +1,4 @@
-use Rattle.mm_model.specs.EndLaws.{clear_alone}
+use Rattle.mm_model.specs.FormLaws.{clear_alone}
 use Rattle.mm_model.proofs.laws.histories_list_their_messages.Goals as goal
 
 pub returns : goal.returns

@@ -1,4 +1,4 @@
-use Rattle.mm_model.proofs.StandsHere.{basic_stands_here, opt_stands_here}
+use Rattle.mm_model.proofs.Named.{basic_stands_here, opt_stands_here}
 use Rattle.mm_model.proofs.laws.offers_stand_here.Goals as goal
 
 pub returns-clause-basic : goal.returns-clause-basic

@@ -1,4 +1,4 @@
-use Rattle.mm_model.specs.EndLaws.{first_sound}
+use Rattle.mm_model.specs.FormLaws.{first_sound}
 use Rattle.mm_model.proofs.Moves.{sound_moved}
 use Rattle.mm_model.proofs.move_laws.moves_keep_histories_sound.Goals as goal
 

@@ -1,4 +1,4 @@
-use Rattle.mm_model.specs.EndLaws.{first_outside}
+use Rattle.mm_model.specs.FormLaws.{first_outside}
 use Rattle.mm_model.proofs.Moves.{outside_moved}
 use Rattle.mm_model.proofs.move_laws.moves_keep_values_outside.Goals as goal
 

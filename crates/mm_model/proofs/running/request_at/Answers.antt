@@ -1,6 +1,6 @@
 use Rattle.mm_model.proofs.Below.{sym}
 use Rattle.mm_module.specs.Batches.{batch_of}
-use Rattle.mm_model.specs.LongLaws.{members_are_lines}
+use Rattle.mm_model.specs.FormLaws.{members_are_lines}
 use Rattle.mm_model.proofs.running.request_at.Goals as goal
 
 pub returns-clause-line : goal.returns-clause-line

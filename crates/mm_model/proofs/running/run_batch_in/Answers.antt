@@ -2,7 +2,7 @@ use Rattle.std.proofs.Common.{arith}
 use Rattle.std.proofs.lemmas.Grind.{common_steps}
 use Rattle.mm_module.specs.Batch.{members_of}
 use Rattle.mm_module.specs.Batches.{batch_of}
-use Rattle.mm_model.proofs.Members.{ran_on}
+use Rattle.mm_model.proofs.Moves.{ran_on}
 use Rattle.mm_model.proofs.running.run_batch_in.Goals as goal
 
 pub members-preserved : goal.members-preserved

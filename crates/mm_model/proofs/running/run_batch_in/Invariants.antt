@@ -1,6 +1,6 @@
 use Rattle.mm_module.specs.Batch.{members_of}
 use Rattle.mm_module.specs.Batches.{batch_of}
-use Rattle.mm_model.specs.PartialRun.{IsPartialRun}
+use Rattle.mm_model.specs.Moves.{IsPartialRun}
 use Rattle.mm_model.proofs.running.run_batch_in.Given as goal
 
 abbrev pub invariant-members : goal.invariant-members

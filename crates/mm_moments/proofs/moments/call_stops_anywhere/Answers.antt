@@ -1,6 +1,5 @@
-use Rattle.mm_moments.proofs.CallStops.{calls_stop_anywhere}
-use Rattle.mm_moments.proofs.ClosingStops.{checkpoints_stop_anywhere, killed_between}
-use Rattle.mm_moments.proofs.Counting.{all_are_counted}
+use Rattle.mm_moments.proofs.Counting.{calls_stop_anywhere, all_are_counted}
+use Rattle.mm_moments.proofs.LineStops.{checkpoints_stop_anywhere, killed_between}
 use Rattle.mm_moments.proofs.moments.call_stops_anywhere.Goals as goal
 
 pub returns-clause-calls : goal.returns-clause-calls

@@ -1,4 +1,4 @@
-use Rattle.mm_moments.proofs.ClosingStops.{may_be_killed}
+use Rattle.mm_moments.proofs.LineStops.{may_be_killed}
 use Rattle.mm_moments.proofs.moments.sessions_may_be_killed.Goals as goal
 
 pub returns : goal.returns

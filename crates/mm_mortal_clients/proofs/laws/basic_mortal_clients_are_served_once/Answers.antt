@@ -1,4 +1,4 @@
-use Rattle.mm_mortal_clients.proofs.ServedLaws.{basic_served}
+use Rattle.mm_mortal_clients.proofs.Honest.{basic_served}
 use Rattle.mm_mortal_clients.proofs.laws.basic_mortal_clients_are_served_once.Goals as goal
 
 pub returns : goal.returns

@@ -1,4 +1,4 @@
-use Rattle.mm_mortal_clients.proofs.ServedLaws.{opt_served}
+use Rattle.mm_mortal_clients.proofs.Honest.{opt_served}
 use Rattle.mm_mortal_clients.proofs.laws.opt_mortal_clients_are_served_once.Goals as goal
 
 pub returns : goal.returns

@@ -1,6 +1,5 @@
 use Rattle.mm_move.proofs.Below.{List, ℕ, moved_cell_of, acceptance_in}
-use Rattle.mm_move.proofs.Moving.{moved_as}
-use Rattle.mm_move.proofs.Orders.{accepts_no_fault}
+use Rattle.mm_move.proofs.Moving.{moved_as, accepts_no_fault}
 use Rattle.mm_move.proofs.accepting.accept.Goals as goal
 
 pub returns : goal.returns

@@ -1,5 +1,5 @@
 use Rattle.mm_move.proofs.Below.{ap, TicketContent}
-use Rattle.mm_seal.specs.Body.{content_of}
+use Rattle.mm_seal.specs.Parts.{content_of}
 use Rattle.mm_move.proofs.TicketLaws.{ticket_bounded}
 use Rattle.mm_move.proofs.accepting.right_ticket.Goals as goal
 

@@ -1,8 +1,7 @@
 use Rattle.mm_move.proofs.Below.{List, ℕ, subst, WaitingCell, moved_cell_of}
-use Rattle.mm_move.specs.Moves.{MovePromise}
+use Rattle.mm_move.specs.Cells.{MovePromise}
 use Rattle.mm_move.specs.Orders.{invitation_in}
-use Rattle.mm_move.proofs.Moving.{moved_as}
-use Rattle.mm_move.proofs.Orders.{invites_no_fault}
+use Rattle.mm_move.proofs.Moving.{moved_as, invites_no_fault}
 use Rattle.mm_move.proofs.inviting.invite.Goals as goal
 
 pub returns-clause-moved : goal.returns-clause-moved

@@ -1,6 +1,5 @@
 use Rattle.mm_move.proofs.Below.{List, ℕ, moved_cell_of, retirement_in}
-use Rattle.mm_move.proofs.Moving.{moved_as}
-use Rattle.mm_move.proofs.Orders.{retires_no_fault}
+use Rattle.mm_move.proofs.Moving.{moved_as, retires_no_fault}
 use Rattle.mm_move.proofs.retiring.retire.Goals as goal
 
 pub returns : goal.returns

@@ -1,5 +1,5 @@
 use Rattle.mm_opt.proofs.Below.{◌≡◌, ℕ, List, IfOk, subst}
-use Rattle.mm_opt.proofs.FirstLaws.{first_cell, first_snapshot}
+use Rattle.mm_opt.proofs.Writing.{first_cell, first_snapshot}
 use Rattle.mm_opt.proofs.first.provision.Goals as goal
 
 pub returns-clause-cell : goal.returns-clause-cell

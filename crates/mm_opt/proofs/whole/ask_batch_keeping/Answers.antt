@@ -1,6 +1,5 @@
 use Rattle.mm_opt.proofs.Below.{◌≡◌, sym, ◌∙◌, false, batch_of, is_long}
-use Rattle.mm_opt.proofs.Asked.{asked_by}
-use Rattle.mm_opt.proofs.Going.{finished_asks}
+use Rattle.mm_opt.proofs.Going.{asked_by, finished_asks}
 use Rattle.mm_opt.proofs.whole.ask_batch_keeping.Goals as goal
 
 pub returns : goal.returns

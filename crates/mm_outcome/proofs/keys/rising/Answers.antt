@@ -2,7 +2,7 @@ use Rattle.mm_outcome.proofs.Below.{◌≡◌, ℕ, List, ◌+◌, ◌<◌, get_
 use Rattle.std.proofs.Math.ListN.{length-set}
 use Rattle.std.proofs.lemmas.List.Edits.{fill_by_more}
 use Rattle.std.proofs.lemmas.List.FromFn.{length-range_with_len, get_or-range_with_len}
-use Rattle.mm_outcome.specs.WorldState.{rising_bytes_from}
+use Rattle.mm_outcome.specs.OneRun.{rising_bytes_from}
 use Rattle.mm_outcome.proofs.keys.rising.Goals as goal
 
 is_rising : (bytes : List ℕ) (first : ℕ) → length bytes ≡ 32 → ((k : ℕ) → k < 32 → get_or bytes k 0 ≡ first + k)

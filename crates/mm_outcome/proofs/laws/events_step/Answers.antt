@@ -1,4 +1,4 @@
-use Rattle.mm_outcome.proofs.Running.{event_steps}
+use Rattle.mm_outcome.proofs.Counting.{event_steps}
 use Rattle.mm_outcome.proofs.laws.events_step.Goals as goal
 
 pub returns : goal.returns

@@ -1,4 +1,4 @@
-use Rattle.mm_outcome.proofs.Running.{expected_runs}
+use Rattle.mm_outcome.proofs.Counting.{expected_runs}
 use Rattle.mm_outcome.proofs.laws.expected_runs.Goals as goal
 
 pub returns : goal.returns

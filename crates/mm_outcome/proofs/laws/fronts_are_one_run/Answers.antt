@@ -1,4 +1,4 @@
-use Rattle.mm_outcome.proofs.FrontRuns.{clear_fronts, fronts_run, genuine_fronts}
+use Rattle.mm_outcome.proofs.FirstBytes.{clear_fronts, fronts_run, genuine_fronts}
 use Rattle.mm_outcome.proofs.laws.fronts_are_one_run.Goals as goal
 
 pub returns : goal.returns

@@ -1,5 +1,5 @@
-use Rattle.mm_call.specs.Levels.{list_level, digest_level}
-use Rattle.mm_outcome.proofs.FrontRuns.{goes_on, messages-append}
+use Rattle.mm_call.specs.CallFinding.{list_level, digest_level}
+use Rattle.mm_outcome.proofs.FirstBytes.{goes_on, messages-append}
 use Rattle.mm_outcome.proofs.laws.schedules_go_on.Goals as goal
 
 pub returns : goal.returns

@@ -1,5 +1,5 @@
 use Rattle.mm_pages.proofs.Below.{◌≡◌, ℕ, ◌+◌, ◌*◌, ◌-◌, ◌<◌, min, take, subst, sym, ap, ◌∙◌, arith, List, page_count}
-use Rattle.mm_pages.proofs.ReadingLaws.{GivesFirst, gives_more, gives_all}
+use Rattle.mm_pages.proofs.BytesLaws.{GivesFirst, gives_more, gives_all}
 use Rattle.mm_pages.proofs.reading.put_pages.Goals as goal
 
 pub loop-page-preserved : goal.loop-page-preserved

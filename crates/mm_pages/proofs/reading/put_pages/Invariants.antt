@@ -1,4 +1,4 @@
-use Rattle.mm_pages.proofs.ReadingLaws.{GivesFirst}
+use Rattle.mm_pages.proofs.BytesLaws.{GivesFirst}
 use Rattle.mm_pages.proofs.reading.put_pages.Given as goal
 
 abbrev pub invariant-loop-page : goal.invariant-loop-page

@@ -1,4 +1,4 @@
-use Rattle.mm_pages.proofs.ReadingLaws.{gives_size}
+use Rattle.mm_pages.proofs.BytesLaws.{gives_size}
 use Rattle.mm_pages.proofs.reading.size_seen.Goals as goal
 
 pub returns : goal.returns

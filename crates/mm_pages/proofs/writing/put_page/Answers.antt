@@ -1,5 +1,5 @@
 use Rattle.mm_pages.proofs.Below.{arith, true, false, Ok, err_from_is_err_and, HoldsPage}
-use Rattle.mm_pages.proofs.PageLaws.{look_failed, put_held, put_written}
+use Rattle.mm_pages.proofs.RenewalLaws.{look_failed, put_held, put_written}
 use Rattle.mm_pages.proofs.writing.put_page.Goals as goal
 
 pub returns-in_err-holds_page : goal.returns-in_err-holds_page

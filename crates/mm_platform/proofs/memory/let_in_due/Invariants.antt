@@ -1,5 +1,5 @@
 use Rattle.mm_platform.proofs.Below.{vec_len, vec_capacity, items_of}
-use Rattle.mm_platform.proofs.LettingIn.{LetsIn}
+use Rattle.mm_platform.proofs.Telling.{LetsIn}
 use Rattle.mm_platform.proofs.memory.let_in_due.Given as goal
 
 abbrev pub invariant-loop-meddle : goal.invariant-loop-meddle

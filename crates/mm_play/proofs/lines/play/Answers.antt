@@ -1,6 +1,6 @@
 use Rattle.std.proofs.Common.{◌<◌, ◌∙◌, refl, ap, Ok, arith}
 use Rattle.std.proofs.lemmas.Result.{err_from_is_err_and}
-use Rattle.mm_play.proofs.Stands.{stands_first, stands_on, plays_stopped, plays_ended, plays_nothing, answered_line}
+use Rattle.mm_play.proofs.Stopped.{stands_first, stands_on, plays_stopped, plays_ended, plays_nothing, answered_line}
 use Rattle.mm_play.proofs.lines.play.Goals as goal
 
 pub returns-in_err-reader-clause-plays : goal.returns-in_err-reader-clause-plays

@@ -1,5 +1,5 @@
 use Rattle.std.proofs.Common.{◌≡◌, ◌+◌, ◌≤◌, ◌^◌}
-use Rattle.mm_play.proofs.Stands.{Stands}
+use Rattle.mm_play.proofs.Stopped.{Stands}
 use Rattle.mm_play.proofs.lines.play.Given as goal
 
 -- where the run stands; the counts are as before; and the lines left keep the number small

@@ -1,7 +1,7 @@
 use Rattle.mm_quota.proofs.Below.{ap, sym, ◌∙◌, arith, ℕ, min, Option, option_map, is_some, if◌then◌else◌, LedgerAccount, LedgerOutput}
 use Rattle.mm_quota.proofs.Below.{accounts_after, spelling_of, ledger_of, IsAccount-from, as_account, as_action, as_says}
 use Rattle.std.proofs.Common.{◌+◌}
-use Rattle.mm_quota.proofs.ActLaws.{found-within, put-is, put-spelled, decided, is_some-as_account}
+use Rattle.mm_quota.proofs.PlaceLaws.{found-within, put-is, put-spelled, decided, is_some-as_account}
 use Rattle.mm_quota.proofs.quota.acted.Goals as goal
 
 -- what was found is within its limit

@@ -1,7 +1,7 @@
 use Rattle.mm_quota.proofs.Below.{rules, arith, sym, ap, ◌∙◌, Some, as_action, as_request}
-use Rattle.mm_module.specs.Words.{words_of}
+use Rattle.mm_module.specs.Meaning.{words_of}
 use Rattle.mm_quota.specs.declared.request.Request.{Request}
-use Rattle.mm_quota.proofs.ActLaws.{IsSpelled-from, few-from, asked-named}
+use Rattle.mm_quota.proofs.PlaceLaws.{IsSpelled-from, few-from, asked-named}
 use Rattle.mm_quota.proofs.quota.step.Goals as goal
 
 -- a state of this size spells a ledger

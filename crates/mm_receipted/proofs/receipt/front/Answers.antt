@@ -1,5 +1,5 @@
 use Rattle.std.proofs.Common.{refl}
-use Rattle.mm_bytes.specs.Fields.{eight_bytes, four_bytes}
+use Rattle.mm_bytes.specs.Limits.{eight_bytes, four_bytes}
 use Rattle.mm_receipted.specs.Receipts.{receipt_front}
 use Rattle.mm_receipted.proofs.receipt.front.Goals as goal
 

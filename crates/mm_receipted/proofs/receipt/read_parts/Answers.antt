@@ -1,5 +1,5 @@
 use Rattle.std.proofs.Common.{sym}
-use Rattle.mm_receipted.proofs.StateLaws.{parts_of-short}
+use Rattle.mm_receipted.proofs.TaggedLaws.{parts_of-short}
 use Rattle.mm_receipted.proofs.receipt.read_parts.Goals as goal
 
 pub returns-then-output-lt64 : goal.returns-then-output-lt64

@@ -1,6 +1,6 @@
 use Rattle.mm_recovery.proofs.Below.{BatchAnswer, Ok, ap, refl}
-use Rattle.mm_call.specs.UntouchedLaws.{wholly}
-use Rattle.mm_recovery.proofs.OneCall.{is_call}
+use Rattle.mm_call.specs.TellingLaws.{wholly}
+use Rattle.mm_recovery.proofs.Exits.{is_call}
 use Rattle.mm_recovery.proofs.asking.ask.Goals as goal
 
 pub returns-in-Err : goal.returns-in-Err

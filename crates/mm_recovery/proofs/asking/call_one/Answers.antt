@@ -1,5 +1,5 @@
 use Rattle.mm_basic.proofs.Above.{one_output}
-use Rattle.mm_recovery.proofs.OneCall.{asked_in}
+use Rattle.mm_recovery.proofs.Exits.{asked_in}
 use Rattle.mm_recovery.proofs.asking.call_one.Goals as goal
 
 pub returns-clause-asked : goal.returns-clause-asked

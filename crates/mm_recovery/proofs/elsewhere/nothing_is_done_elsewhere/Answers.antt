@@ -1,4 +1,4 @@
-use Rattle.mm_recovery.proofs.Away.{calls_are_refused, checkpoints_are_refused}
+use Rattle.mm_recovery.proofs.Exits.{calls_are_refused, checkpoints_are_refused}
 use Rattle.mm_recovery.proofs.elsewhere.nothing_is_done_elsewhere.Goals as goal
 
 pub returns-clause-calls : goal.returns-clause-calls

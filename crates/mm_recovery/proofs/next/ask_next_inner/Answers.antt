@@ -1,4 +1,4 @@
-use Rattle.mm_recovery.proofs.Sizes.{asked_sized}
+use Rattle.mm_recovery.proofs.Exits.{asked_sized}
 use Rattle.mm_recovery.proofs.next.ask_next_inner.Goals as goal
 
 pub returns-in-Ok-clause-sized : goal.returns-in-Ok-clause-sized

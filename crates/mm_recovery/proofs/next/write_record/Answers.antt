@@ -1,5 +1,5 @@
 use Rattle.std.proofs.Common.{◌∙◌}
-use Rattle.mm_recovery.proofs.Askable.{record_short}
+use Rattle.mm_recovery.proofs.BatchMeeting.{record_short}
 use Rattle.mm_recovery.proofs.next.write_record.Goals as goal
 
 pub write-requires-clause-short : goal.write-requires-clause-short

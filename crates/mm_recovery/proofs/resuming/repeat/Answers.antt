@@ -1,5 +1,5 @@
 use Rattle.mm_recovery.proofs.Below.{ap, ◌∙◌, PendingRecord}
-use Rattle.mm_recovery.proofs.Askable.{askable}
+use Rattle.mm_recovery.proofs.BatchMeeting.{askable}
 use Rattle.mm_recovery.proofs.resuming.repeat.Goals as goal
 
 pub ask_and_keep-requires : goal.ask_and_keep-requires

@@ -1,6 +1,5 @@
 use Rattle.mm_recovery.proofs.Recovering.{recovers}
-use Rattle.mm_recovery.proofs.Exits.{resumes_came, resumes_told}
-use Rattle.mm_recovery.proofs.Sizes.{resumes_sized}
+use Rattle.mm_recovery.proofs.Exits.{resumes_came, resumes_told, resumes_sized}
 use Rattle.mm_recovery.proofs.resuming.resume.Goals as goal
 
 pub returns-clause-faults : goal.returns-clause-faults

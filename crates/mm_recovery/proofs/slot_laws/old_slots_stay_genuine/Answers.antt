@@ -1,4 +1,4 @@
-use Rattle.mm_recovery.proofs.Slots.{fitting_are_genuine, stays_genuine}
+use Rattle.mm_recovery.proofs.Meeting.{fitting_are_genuine, stays_genuine}
 use Rattle.mm_recovery.proofs.slot_laws.old_slots_stay_genuine.Goals as goal
 
 pub returns-clause-fitting : goal.returns-clause-fitting

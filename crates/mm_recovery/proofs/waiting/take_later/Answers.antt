@@ -1,6 +1,6 @@
 use Rattle.mm_recovery.proofs.Below.{◌≡◌, List, ℕ, Ok, Option, Some, ap, inl, inr, rules, option_map, IsWaiting, PendingRecord}
 use Rattle.mm_recovery.proofs.Below.{ReadsPendingRecord, later_record}
-use Rattle.mm_store.specs.Records.{pending_of}
+use Rattle.mm_store.specs.PendingRecord.{pending_of}
 use Rattle.mm_recovery.proofs.waiting.take_later.Goals as goal
 
 waits : (two three : List ℕ) (waiting in_two in_three : Option PendingRecord) → ReadsPendingRecord 2 two in_two

@@ -1,6 +1,6 @@
 use Rattle.std.proofs.Common.{◌≡◌, drop}
-use Rattle.mm_model.specs.Life.{are_own}
-use Rattle.mm_model.specs.KeptHistory.{kept_batches, kept_entries}
+use Rattle.mm_model.specs.Standing.{are_own}
+use Rattle.mm_model.specs.Verdicts.{kept_batches, kept_entries}
 use Rattle.mm_reference.proofs.entries.all_own.Given as goal
 
 abbrev pub invariant-entries : goal.invariant-entries

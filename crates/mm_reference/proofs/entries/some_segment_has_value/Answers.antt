@@ -1,6 +1,6 @@
 use Rattle.std.proofs.Common.{◌∙◌, sym, ap}
-use Rattle.mm_model.specs.Life.{has_value}
-use Rattle.mm_model.specs.KeptHistory.{kept_entries}
+use Rattle.mm_model.specs.Standing.{has_value}
+use Rattle.mm_model.specs.Verdicts.{kept_entries}
 use Rattle.mm_reference.proofs.EntryLaws.{segment_tells}
 use Rattle.mm_reference.proofs.entries.some_segment_has_value.Goals as goal
 

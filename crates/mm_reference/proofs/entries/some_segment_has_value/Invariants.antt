@@ -1,7 +1,7 @@
 use Rattle.std.proofs.Common.{◌≡◌, drop}
 use Rattle.mm_model.specs.History.{items_of_all}
-use Rattle.mm_model.specs.Life.{has_value}
-use Rattle.mm_model.specs.KeptHistory.{kept_segments}
+use Rattle.mm_model.specs.Standing.{has_value}
+use Rattle.mm_model.specs.Verdicts.{kept_segments}
 use Rattle.mm_reference.proofs.entries.some_segment_has_value.Given as goal
 
 abbrev pub invariant-segments : goal.invariant-segments

@@ -1,7 +1,6 @@
 use Rattle.mm_replay.proofs.Below.{events_err, events_ok, plays_err, unrefused}
-use Rattle.mm_replay.specs.Headline.{IsByDigests, replay_player, run_result_by_digests}
-use Rattle.mm_replay.specs.WholeReplay.{ReportsReplay}
-use Rattle.mm_replay.specs.Schedule.{first_replay_state, replay_heads, replay_stage, replay_steps}
+use Rattle.mm_replay.specs.Schedule.{IsByDigests, replay_player, run_result_by_digests, ReportsReplay, first_replay_state, replay_heads}
+use Rattle.mm_replay.specs.Schedule.{replay_stage, replay_steps}
 use Rattle.mm_replay.specs.declared.report.Report.{Report}
 use Rattle.mm_replay.proofs.Telling.{by_digests_so, shows}
 use Rattle.mm_replay.proofs.schedules.replay.Goals as goal

@@ -1,5 +1,5 @@
 use Rattle.std.proofs.Common.{◌∙◌}
-use Rattle.mm_schedule.proofs.HeaderLaws.{head-read, if-head-spelled}
+use Rattle.mm_schedule.proofs.SpelledIsRead.{head-read, if-head-spelled}
 use Rattle.mm_schedule.proofs.header.read_head.Goals as goal
 
 pub returns-clause-spelled : goal.returns-clause-spelled

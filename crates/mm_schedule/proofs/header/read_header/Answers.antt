@@ -1,5 +1,5 @@
 use Rattle.std.proofs.Common.{◌∙◌}
-use Rattle.mm_schedule.proofs.HeaderLaws.{header-read, if-spelled}
+use Rattle.mm_schedule.proofs.SpelledIsRead.{header-read, if-spelled}
 use Rattle.mm_schedule.proofs.header.read_header.Goals as goal
 
 pub returns-clause-spelled : goal.returns-clause-spelled

@@ -1,4 +1,4 @@
-use Rattle.mm_schedule.proofs.RunLaws.{run-fixed}
+use Rattle.mm_schedule.proofs.TellingLaws.{run-fixed}
 use Rattle.mm_schedule.proofs.laws.run_is_fixed.Goals as goal
 
 pub returns : goal.returns

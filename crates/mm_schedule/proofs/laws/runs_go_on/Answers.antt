@@ -1,4 +1,4 @@
-use Rattle.mm_schedule.proofs.RunLaws.{runs-on}
+use Rattle.mm_schedule.proofs.TellingLaws.{runs-on}
 use Rattle.mm_schedule.proofs.laws.runs_go_on.Goals as goal
 
 pub returns : goal.returns

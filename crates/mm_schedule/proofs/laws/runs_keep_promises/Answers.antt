@@ -1,4 +1,4 @@
-use Rattle.mm_schedule.proofs.PromiseLaws.{promises-kept}
+use Rattle.mm_schedule.proofs.TellingLaws.{promises-kept}
 use Rattle.mm_schedule.proofs.laws.runs_keep_promises.Goals as goal
 
 pub returns : goal.returns

@@ -1,5 +1,5 @@
 use Rattle.mm_schedule.proofs.Below.{sym}
-use Rattle.mm_schedule.proofs.PrintLaws.{not_missing}
+use Rattle.mm_schedule.proofs.MeddleLaws.{not_missing}
 use Rattle.mm_schedule.proofs.print.output_at.Goals as goal
 
 pub unreachable-requires : goal.unreachable-requires

@@ -1,6 +1,6 @@
 use Rattle.std.proofs.lemmas.Grind.{common_steps}
 use Rattle.mm_schedule.proofs.Below.{arith, ◌+◌, ◌<◌, ℕ, List, length, sym, ap, ◌∙◌, option_map, Option, Some, told_lines, told_line}
-use Rattle.mm_schedule.proofs.PrintLaws.{length-told_lines, told_lines-at}
+use Rattle.mm_schedule.proofs.MeddleLaws.{length-told_lines, told_lines-at}
 use Rattle.mm_schedule.proofs.print.print_line.Goals as goal
 
 pub output_at-output-requires : goal.output_at-output-requires

@@ -1,5 +1,5 @@
 use Rattle.std.proofs.Common.{sym, ◌∙◌}
-use Rattle.mm_schedule.proofs.PrintLaws.{length-told_lines}
+use Rattle.mm_schedule.proofs.MeddleLaws.{length-told_lines}
 use Rattle.mm_schedule.proofs.print.reply_lines.Goals as goal
 
 pub returns-in-Told : goal.returns-in-Told

@@ -3,7 +3,7 @@ use Rattle.mm_schedule.proofs.Below.{arith, ◌≡◌, ◌+◌, ◌<◌, ◌++�
 use Rattle.mm_schedule.proofs.Below.{lines_of_reply, told_lines, told_line}
 use Rattle.std.proofs.Common.{Result, Ok, Err}
 use Rattle.mm_bytes.specs.declared.fault.Memory.{Memory}
-use Rattle.mm_schedule.proofs.PrintLaws.{length-told_lines, told_lines-at}
+use Rattle.mm_schedule.proofs.MeddleLaws.{length-told_lines, told_lines-at}
 use Rattle.mm_schedule.proofs.put.put_line.Goals as goal
 
 -- what holds after Ok, with more that always holds

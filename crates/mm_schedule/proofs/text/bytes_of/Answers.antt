@@ -1,6 +1,6 @@
 use Rattle.mm_schedule.proofs.Below.{◌≡◌, sym, ◌∙◌, unwrap_or, bytes_at}
 use Rattle.std.specs.Prelude.{[]}
-use Rattle.mm_schedule.proofs.HexWords.{digits_give}
+use Rattle.mm_schedule.proofs.MeddleLaws.{digits_give}
 use Rattle.mm_schedule.proofs.text.bytes_of.Goals as goal
 
 pub returns : goal.returns

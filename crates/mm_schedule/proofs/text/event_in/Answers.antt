@@ -1,5 +1,5 @@
 use Rattle.mm_schedule.proofs.Below.{◌∙◌, [], sym}
-use Rattle.mm_schedule.proofs.AskLaws.{asks_at_once}
+use Rattle.mm_schedule.proofs.ReadIsSpelled.{asks_at_once}
 use Rattle.mm_schedule.proofs.text.event_in.Goals as goal
 
 pub returns-in-Some : goal.returns-in-Some

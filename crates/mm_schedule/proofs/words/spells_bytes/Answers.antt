@@ -1,5 +1,5 @@
 use Rattle.std.proofs.Common.{sym, ◌∙◌}
-use Rattle.mm_schedule.proofs.HexWords.{digits_spell}
+use Rattle.mm_schedule.proofs.MeddleLaws.{digits_spell}
 use Rattle.mm_schedule.proofs.words.spells_bytes.Goals as goal
 
 pub returns : goal.returns

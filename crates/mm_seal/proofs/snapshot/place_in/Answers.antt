@@ -1,6 +1,6 @@
 use Rattle.mm_seal.proofs.Below.{◌≡◌, ◌++◌, ◌∙◌, ap, arith, drop, length-drop, List, take, take_all, take-append-drop, ℕ}
 use Rattle.mm_digest.specs.declared.digest.Digest.{Digest}
-use Rattle.mm_seal.specs.Body.{place_length}
+use Rattle.mm_seal.specs.Parts.{place_length}
 use Rattle.mm_seal.proofs.snapshot.place_in.Goals as goal
 
 pub returns-in-Basic-clause-spelled : goal.returns-in-Basic-clause-spelled

@@ -1,5 +1,5 @@
 use Rattle.mm_seal.proofs.Below.{◌<◌, ◌∙◌, ap, arith, length, length-append, length-eight_bytes}
-use Rattle.mm_bytes.specs.Fields.{eight_bytes}
+use Rattle.mm_bytes.specs.Limits.{eight_bytes}
 use Rattle.mm_seal.proofs.snapshot.split_numbers.Goals as goal
 
 pub returns-in_err-length : goal.returns-in_err-length

@@ -1,4 +1,4 @@
-use Rattle.mm_sides.proofs.PairFronts.{pair_fronts_longest}
+use Rattle.mm_sides.proofs.BothAgree.{pair_fronts_longest}
 use Rattle.mm_sides.proofs.laws.pair_fronts_are_longest.Goals as goal
 
 pub returns : goal.returns

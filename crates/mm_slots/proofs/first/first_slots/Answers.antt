@@ -1,6 +1,6 @@
 use Rattle.mm_slots.proofs.Below.{◌∙◌, refl, ap, rules, first_rows}
 use Rattle.std.proofs.lemmas.List.{take_all}
-use Rattle.mm_slots.proofs.Starting.{one_more}
+use Rattle.mm_slots.proofs.Fitting.{one_more}
 use Rattle.mm_slots.proofs.first.first_slots.Goals as goal
 
 pub loop-place-preserved : goal.loop-place-preserved

@@ -1,5 +1,5 @@
 use Rattle.mm_slots.proofs.Telling.{premises_give}
-use Rattle.mm_slots.proofs.UntilEvidence.{slot_fronts_longest, until_evidence}
+use Rattle.mm_slots.proofs.Growing.{slot_fronts_longest, until_evidence}
 use Rattle.mm_slots.proofs.laws.slots_are_runs.Goals as goal
 
 pub returns : goal.returns

@@ -1,4 +1,4 @@
-use Rattle.mm_slots.proofs.Running.{slots_run}
+use Rattle.mm_slots.proofs.Alone.{slots_run}
 use Rattle.mm_slots.proofs.laws.slots_run.Goals as goal
 
 pub returns : goal.returns

@@ -1,6 +1,6 @@
 use Rattle.std.proofs.Common.{◌≡◌, ℕ, subst, arith}
 use Rattle.mm_slots.proofs.Below.{is_cut_for_all}
-use Rattle.mm_slots.proofs.Following.{tells, cuts_at}
+use Rattle.mm_slots.proofs.Rowing.{tells, cuts_at}
 use Rattle.mm_slots.proofs.rows.act.Goals as goal
 
 pub returns-in-Ok-clause-ok : goal.returns-in-Ok-clause-ok

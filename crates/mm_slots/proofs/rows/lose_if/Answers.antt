@@ -1,4 +1,4 @@
-use Rattle.mm_slots.proofs.Following.{cut_loses, uncut_loses}
+use Rattle.mm_slots.proofs.Rowing.{cut_loses, uncut_loses}
 use Rattle.mm_slots.proofs.rows.lose_if.Goals as goal
 
 pub returns-then-is_cut : goal.returns-then-is_cut

@@ -1,5 +1,5 @@
 use Rattle.std.proofs.Common.{rules}
-use Rattle.mm_slots.proofs.Totalling.{ends_on}
+use Rattle.mm_slots.proofs.Growing.{ends_on}
 use Rattle.mm_slots.proofs.totals.put_ends.Goals as goal
 
 pub loop-place-preserved : goal.loop-place-preserved

@@ -1,5 +1,5 @@
 use Rattle.mm_slots.proofs.Below.{◌≡◌, take, within_64}
-use Rattle.mm_slots.specs.WholeSlots.{committed_count_in}
+use Rattle.mm_slots.specs.Stage.{committed_count_in}
 use Rattle.mm_slots.proofs.totals.requests_in.Given as goal
 
 abbrev pub invariant-loop-slot : goal.invariant-loop-slot

@@ -1,8 +1,7 @@
 use Rattle.std.proofs.Common.{◌∙◌, ap}
 use Rattle.mm_play.specs.Stage.{AtHeading}
 use Rattle.mm_slots.proofs.Below.{events_err, events_ok, slots_steps, plays_err, unrefused, ReportsSlots}
-use Rattle.mm_slots.specs.Headline.{AreSlotRuns, slots_player}
-use Rattle.mm_slots.specs.Stage.{first_slots_state, slots_heads, slots_stage}
+use Rattle.mm_slots.specs.Stage.{AreSlotRuns, slots_player, first_slots_state, slots_heads, slots_stage}
 use Rattle.mm_slots.specs.declared.report.SlotReport.{SlotReport}
 use Rattle.mm_slots.proofs.Telling.{are_slot_runs, shown_in, shows}
 use Rattle.mm_slots.proofs.whole.slots.Goals as goal

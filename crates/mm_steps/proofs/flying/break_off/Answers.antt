@@ -1,4 +1,4 @@
-use Rattle.mm_steps.proofs.FlyingSteps.{broken_off, may_stop, wants_none}
+use Rattle.mm_steps.proofs.Steps.{broken_off, may_stop, wants_none}
 use Rattle.mm_steps.proofs.flying.break_off.Goals as goal
 
 pub finish-ended-requires : goal.finish-ended-requires

@@ -1,5 +1,5 @@
 use Rattle.mm_steps.proofs.Below.{Err, Ok, ap, number_of, ◌∙◌, ℕ}
-use Rattle.mm_steps.proofs.FlyingSteps.{few_writes, going_on, is_over}
+use Rattle.mm_steps.proofs.Steps.{few_writes, going_on, is_over}
 use Rattle.mm_steps.proofs.flying.step.Goals as goal
 
 pub returns-in-Going-clause-steps : goal.returns-in-Going-clause-steps

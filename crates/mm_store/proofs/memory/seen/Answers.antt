@@ -1,5 +1,5 @@
 use Rattle.std.proofs.Common.{sym}
-use Rattle.mm_store.proofs.SlotLaws.{longest_slot-is, take-longest}
+use Rattle.mm_store.proofs.PendingLaws.{longest_slot-is, take-longest}
 use Rattle.mm_store.proofs.memory.seen.Goals as goal
 
 pub returns-clause-front : goal.returns-clause-front

@@ -1,7 +1,7 @@
 use Rattle.mm_store.proofs.Below.{◌≡◌, ◌∙◌, ap, refl, arith, List, ℕ, ◌++◌, length, true, false, length-take-le, record_word}
 use Rattle.mm_store.proofs.Below.{joined}
 use Rattle.std.proofs.Common.{◌<◌, length-append, length-drop}
-use Rattle.mm_bytes.specs.FieldLaws.{length-eight_bytes}
+use Rattle.mm_bytes.specs.DecimalLaws.{length-eight_bytes}
 use Rattle.mm_store.proofs.PendingLaws.{no_front-short, no_front-fields, front_of_fields}
 use Rattle.mm_store.proofs.pending.front_of.Goals as goal
 use Rattle.mm_store.proofs.pending.front_of.Goals.{else-begins_record-via-then-begins_record+else-request-length}

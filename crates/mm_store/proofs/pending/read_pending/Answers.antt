@@ -1,5 +1,5 @@
 use Rattle.mm_store.proofs.Below.{◌≡◌, refl, true, false}
-use Rattle.mm_store.specs.Records.{pending_of}
+use Rattle.mm_store.specs.PendingRecord.{pending_of}
 use Rattle.mm_store.proofs.PendingLaws.{reads_none-short, reads_none-front, reads_none-invalid, reads_some}
 use Rattle.mm_store.proofs.pending.read_pending.Goals as goal
 use Rattle.mm_store.proofs.pending.read_pending.Goals.{else-stands_in-via-then-stands_in+else-is_digest_of}

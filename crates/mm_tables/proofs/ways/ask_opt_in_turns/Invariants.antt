@@ -1,4 +1,4 @@
-use Rattle.mm_opt.specs.TurnPromise.{MayGoOn}
+use Rattle.mm_opt.specs.AskPromise.{MayGoOn}
 use Rattle.mm_tables.proofs.ways.ask_opt_in_turns.Given as goal
 
 -- the next step may be made

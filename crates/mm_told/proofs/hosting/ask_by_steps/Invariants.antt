@@ -1,4 +1,4 @@
-use Rattle.mm_told.specs.Host.{bare_standing}
+use Rattle.mm_told.specs.CallPath.{bare_standing}
 use Rattle.mm_told.proofs.hosting.ask_by_steps.Given as goal
 
 abbrev pub ghost-begin : goal.ghost-begin

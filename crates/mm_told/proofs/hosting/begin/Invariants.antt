@@ -1,5 +1,5 @@
-use Rattle.mm_told.specs.Host.{bare_standing}
-use Rattle.mm_told.proofs.Standings.{host_of}
+use Rattle.mm_told.specs.CallPath.{bare_standing}
+use Rattle.mm_told.proofs.Playing.{host_of}
 use Rattle.mm_told.proofs.hosting.begin.Given as goal
 
 abbrev pub ghost-ask : goal.ghost-ask

@@ -1,4 +1,4 @@
-use Rattle.mm_told.proofs.Standings.{host_of}
+use Rattle.mm_told.proofs.Playing.{host_of}
 use Rattle.mm_told.proofs.hosting.end.Given as goal
 
 abbrev pub ghost-ask : goal.ghost-ask

@@ -1,8 +1,7 @@
 use Rattle.std.proofs.Common.{rules, sym, subst}
 use Rattle.mm_platform.specs.Standing.{Standing}
-use Rattle.mm_told.specs.Host.{bare_standing}
-use Rattle.mm_told.specs.Steps.{IsMade}
-use Rattle.mm_told.proofs.Missing.{made_bare}
+use Rattle.mm_told.specs.CallPath.{bare_standing, IsMade}
+use Rattle.mm_told.proofs.Playing.{made_bare}
 use Rattle.mm_told.proofs.hosting.go_on.Goals as goal
 
 pub end-requires : goal.end-requires

@@ -1,5 +1,5 @@
 use Rattle.std.proofs.Common.{refl}
-use Rattle.mm_told.proofs.Leading.{slice_on, slice_ends, slice_other}
+use Rattle.mm_told.proofs.Playing.{slice_on, slice_ends, slice_other}
 use Rattle.mm_told.proofs.told.+tell.Goals as goal
 
 pub returns-in-To : goal.returns-in-To

@@ -4,7 +4,7 @@ use Rattle.mm_digest.specs.declared.digest.Digest.{Digest}
 use Rattle.mm_machine.specs.declared.call.OpStage.TheVariants.{Seen}
 use Rattle.mm_told.specs.declared.step.MadeStep.TheVariants as made
 use Rattle.mm_told.specs.CallPath.{StepsWeighRegister, step_by_finding}
-use Rattle.mm_told.proofs.Leading.{turned}
+use Rattle.mm_told.proofs.Playing.{turned}
 use Rattle.mm_told.proofs.told.weigh.Goals as goal
 
 pub returns : goal.returns

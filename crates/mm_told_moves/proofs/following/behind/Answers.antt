@@ -1,4 +1,4 @@
-use Rattle.mm_told_moves.proofs.Telling.{read_none}
+use Rattle.mm_told_moves.proofs.Sizing.{read_none}
 use Rattle.mm_told_moves.proofs.following.behind.Goals as goal
 
 pub returns-in_default : goal.returns-in_default

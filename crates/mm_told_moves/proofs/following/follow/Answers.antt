@@ -1,5 +1,5 @@
 use Rattle.std.proofs.Common.{refl}
-use Rattle.mm_told_moves.proofs.Telling.{slice_tells}
+use Rattle.mm_told_moves.proofs.Sizing.{slice_tells}
 use Rattle.mm_told_moves.proofs.following.follow.Goals as goal
 
 pub returns-in-len1-up : goal.returns-in-len1-up

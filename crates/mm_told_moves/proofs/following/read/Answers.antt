@@ -1,4 +1,4 @@
-use Rattle.mm_told_moves.proofs.Telling.{read_failed}
+use Rattle.mm_told_moves.proofs.Sizing.{read_failed}
 use Rattle.mm_told_moves.proofs.following.read.Goals as goal
 
 pub returns-in-Err : goal.returns-in-Err

@@ -1,5 +1,5 @@
 use Rattle.std.proofs.Common.{rules}
-use Rattle.mm_told_moves.proofs.Telling.{read_found}
+use Rattle.mm_told_moves.proofs.Sizing.{read_found}
 use Rattle.mm_told_moves.proofs.following.seen.Goals as goal
 
 pub returns : goal.returns

@@ -2,8 +2,7 @@ use Rattle.mm_move.proofs.Above.{accepts_no_fault, retires_no_fault}
 use Rattle.mm_move.specs.Cells.{moved_cell_of}
 use Rattle.mm_move.specs.Orders.{waiting_for}
 use Rattle.mm_told_moves.specs.ToldMovePromise.{acceptance_finds, invitation_finds, retirement_finds}
-use Rattle.mm_told_moves.proofs.Moving.{on_host}
-use Rattle.mm_told_moves.proofs.Faultless.{invites_no_fault}
+use Rattle.mm_told_moves.proofs.Moving.{on_host, invites_no_fault}
 use Rattle.mm_told_moves.proofs.laws.told_moves_are_moves.Goals as goal
 
 pub returns-clause-invitations : goal.returns-clause-invitations

@@ -1,8 +1,7 @@
 use Rattle.mm_move.specs.Cells.{moved_cell_of}
 use Rattle.mm_move.specs.Orders.{waiting_for}
 use Rattle.mm_told_moves.specs.ToldMovePromise.{invitation_finds}
-use Rattle.mm_told_moves.proofs.Faultless.{invites_no_fault}
-use Rattle.mm_told_moves.proofs.Moving.{promised}
+use Rattle.mm_told_moves.proofs.Moving.{invites_no_fault, promised}
 use Rattle.mm_told_moves.proofs.moves.invite.Goals as goal
 
 pub returns : goal.returns

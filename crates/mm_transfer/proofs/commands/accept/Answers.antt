@@ -1,7 +1,7 @@
 use Rattle.mm_transfer.proofs.Below.{◌∙◌, List, ℕ, Some, ap, refl, moved_cell_of, acceptance_in, link_of, pair_of}
 use Rattle.mm_transfer.proofs.Commanded.{nothing_named, named_by}
-use Rattle.mm_transfer.proofs.Lacking.{still_lacks}
-use Rattle.mm_transfer.proofs.Accepting.{accepted_done, accepted_unissued}
+use Rattle.mm_transfer.proofs.Retiring.{still_lacks}
+use Rattle.mm_transfer.proofs.AcceptMatching.{accepted_done, accepted_unissued}
 use Rattle.mm_transfer.proofs.commands.accept.Goals as goal
 
 pub returns-in-Err-clause-made : goal.returns-in-Err-clause-made

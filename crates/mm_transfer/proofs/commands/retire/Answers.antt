@@ -1,7 +1,6 @@
 use Rattle.mm_transfer.proofs.Below.{◌∙◌, List, ℕ, Some, ap, refl, moved_cell_of, retirement_in, link_of, pair_of}
 use Rattle.mm_transfer.proofs.Commanded.{nothing_named, named_by}
-use Rattle.mm_transfer.proofs.Lacking.{still_lacks}
-use Rattle.mm_transfer.proofs.Retiring.{retired_unissued, retired_done}
+use Rattle.mm_transfer.proofs.Retiring.{still_lacks, retired_unissued, retired_done}
 use Rattle.mm_transfer.proofs.commands.retire.Goals as goal
 use Rattle.mm_transfer.proofs.commands.retire.Goals.{in-Made-1, in-Lent-1}
 

@@ -1,4 +1,4 @@
-use Rattle.mm_transfer.proofs.Telling.{premises_give, until_evidence}
+use Rattle.mm_transfer.proofs.Matching.{premises_give, until_evidence}
 use Rattle.mm_transfer.proofs.laws.transfers_are_one_run.Goals as goal
 
 pub returns : goal.returns

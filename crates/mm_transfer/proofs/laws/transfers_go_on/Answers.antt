@@ -1,4 +1,4 @@
-use Rattle.mm_transfer.proofs.Telling.{transfers_go_on}
+use Rattle.mm_transfer.proofs.Matching.{transfers_go_on}
 use Rattle.mm_transfer.proofs.laws.transfers_go_on.Goals as goal
 
 pub returns : goal.returns

@@ -1,7 +1,6 @@
 use Rattle.mm_transfer.proofs.Below.{◌≡◌, ◌∙◌, ap, Option, Some, List, ℕ, codes, Header}
-use Rattle.mm_schedule.specs.Headers.{header_of_words}
-use Rattle.mm_schedule.specs.Words.{◌>>=◌, rest_after_prefix}
-use Rattle.mm_transfer.specs.Grammar.{first_header_at}
+use Rattle.mm_schedule.specs.Headers.{header_of_words, ◌>>=◌, rest_after_prefix}
+use Rattle.mm_transfer.specs.Stage.{first_header_at}
 use Rattle.mm_transfer.proofs.read.read_first.Goals as goal
 
 reads : (line words : List ℕ) (found : Option Header) → Some words ≡ rest_after_prefix (codes "memoir transfer 1 ") line

@@ -1,11 +1,9 @@
 use Rattle.mm_transfer.proofs.Below.{first_transfer, events_err, events_ok, transfer_steps, plays_err, unrefused, PairsAgreeThroughout}
 use Rattle.mm_transfer.proofs.Below.{OneIsLive, SidesRunAsOne}
-use Rattle.mm_sides.specs.Evidence.{PairsAreDecided}
-use Rattle.mm_transfer.specs.Headline.{AreOneTransfer, transfer_player}
-use Rattle.mm_transfer.specs.TransferPlay.{ReportsTransfer}
-use Rattle.mm_transfer.specs.Stage.{transfer_heads, transfer_stage}
+use Rattle.mm_sides.specs.Premises.{PairsAreDecided}
+use Rattle.mm_transfer.specs.Stage.{AreOneTransfer, transfer_player, ReportsTransfer, transfer_heads, transfer_stage}
 use Rattle.mm_transfer.specs.declared.report.TransferReport.{TransferReport}
-use Rattle.mm_transfer.proofs.Telling.{SideLaws, are_one_transfer, shown_in, shows}
+use Rattle.mm_transfer.proofs.Matching.{SideLaws, are_one_transfer, shown_in, shows}
 use Rattle.mm_transfer.proofs.whole.transfer.Goals as goal
 
 by_laws : PairsAgreeThroughout → OneIsLive → SidesRunAsOne → PairsAreDecided → SideLaws

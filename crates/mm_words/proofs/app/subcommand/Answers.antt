@@ -1,7 +1,7 @@
 use Rattle.mm_words.proofs.Below.{◌∙◌, ℕ, List, Bor, App, app_of, new_app, ap, refl, arith}
-use Rattle.mm_words.proofs.Folded.{folded_next}
+use Rattle.mm_words.proofs.Reading.{folded_next}
 use Rattle.clap.specs.Words.{with_rule}
-use Rattle.mm_words.specs.App.{wanted_rule}
+use Rattle.mm_words.specs.Commands.{wanted_rule}
 use Rattle.mm_words.proofs.app.subcommand.Goals as goal
 
 pub words-preserved : goal.words-preserved

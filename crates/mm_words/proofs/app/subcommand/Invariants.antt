@@ -1,6 +1,6 @@
 use Rattle.std.proofs.Common.{take}
 use Rattle.clap.specs.Words.{new_app}
-use Rattle.mm_words.specs.App.{IsForm, with_words}
+use Rattle.mm_words.specs.Commands.{IsForm, with_words}
 use Rattle.mm_words.proofs.app.subcommand.Given as goal
 
 -- the words so far were added

@@ -1,7 +1,7 @@
 use Rattle.mm_words.proofs.Below.{◌∙◌, App, app_of, ap, arith}
-use Rattle.mm_words.proofs.Folded.{folded_next}
+use Rattle.mm_words.proofs.Reading.{folded_next}
 use Rattle.clap.specs.Words.{with_subcommand}
-use Rattle.mm_words.specs.App.{form_app}
+use Rattle.mm_words.specs.Commands.{form_app}
 use Rattle.mm_words.specs.declared.app.Form.{Form}
 use Rattle.mm_words.proofs.app.with_forms.Goals as goal
 

@@ -1,6 +1,6 @@
 use Rattle.std.proofs.Common.{◌≡◌, take}
 use Rattle.clap.specs.Words.{app_of}
-use Rattle.mm_words.specs.App.{with_forms}
+use Rattle.mm_words.specs.Commands.{with_forms}
 use Rattle.mm_words.proofs.app.with_forms.Given as goal
 
 -- the forms so far were added

@@ -1,6 +1,6 @@
 -- The name is an arm's, and the definition computes at it.
 use Rattle.mm_words.proofs.Below.{◌∙◌, refl, sym}
-use Rattle.mm_words.specs.Forms.{command_in}
+use Rattle.mm_words.specs.Commands.{command_in}
 use Rattle.mm_words.proofs.form.command_in.Goals as goal
 
 pub returns-in-run-clause-matched : goal.returns-in-run-clause-matched

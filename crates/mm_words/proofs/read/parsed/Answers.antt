@@ -1,8 +1,7 @@
 use Rattle.mm_words.proofs.Below.{◌∙◌, ℕ, List, sym, ap, map, Bor, App, is_simple, subcommand_of, takes, rows_of}
 use Rattle.clap.specs.Matches.{found_of}
-use Rattle.mm_words.proofs.Matched.{is_matched, is_taken}
+use Rattle.mm_words.proofs.Matched.{is_matched, is_taken, is_simple_app}
 use Rattle.mm_words.proofs.Reading.{both_of, none_some, same_some}
-use Rattle.mm_words.proofs.Taken.{is_simple_app}
 use Rattle.mm_words.proofs.read.parsed.Goals as goal
 
 abbrev texts : List (Bor (List ℕ)) → List (List ℕ)

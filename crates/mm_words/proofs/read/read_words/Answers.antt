@@ -1,5 +1,5 @@
 use Rattle.std.proofs.Common.{◌≡◌, ◌∙◌, sym, true, rules}
-use Rattle.mm_words.proofs.OneCommand.{one_command}
+use Rattle.mm_words.proofs.Matched.{one_command}
 use Rattle.mm_words.proofs.Reading.{any_text, no_help, one_refused, same_words, too_many}
 use Rattle.mm_words.proofs.read.read_words.Goals.{then-words-gt-LONGEST-via-then-words-gt-LONGEST}
 use Rattle.mm_words.proofs.read.read_words.Goals.{then-words-gt-LONGEST-via-else-words-gt-LONGEST+then-has_refused}

@@ -1,5 +1,5 @@
-use Rattle.mm_worlds.specs.Crossing.{site_standing}
-use Rattle.mm_worlds.proofs.Crossings.{crosses}
+use Rattle.mm_worlds.specs.Journey.{site_standing}
+use Rattle.mm_worlds.proofs.Decided.{crosses}
 use Rattle.mm_worlds.proofs.crossing.cross_over.Goals as goal
 
 pub returns-in-Ok : goal.returns-in-Ok

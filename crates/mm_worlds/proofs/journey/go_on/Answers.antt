@@ -1,5 +1,5 @@
 use Rattle.mm_worlds.specs.Journey.{both_ends}
-use Rattle.mm_worlds.proofs.Journeys.{goes_on}
+use Rattle.mm_worlds.proofs.Between.{goes_on}
 use Rattle.mm_worlds.proofs.journey.go_on.Goals as goal
 
 pub returns : goal.returns

@@ -1,5 +1,5 @@
 use Rattle.mm_worlds.specs.Journey.{errand, three_sites}
-use Rattle.mm_worlds.proofs.Journeys.{asks_there, leg_by, travels}
+use Rattle.mm_worlds.proofs.Between.{asks_there, leg_by, travels}
 use Rattle.mm_worlds.proofs.journey.travel_round.Goals as goal
 
 pub returns : goal.returns

@@ -1,4 +1,4 @@
-use Rattle.mm_worlds.proofs.Promises.{worlds_keep}
+use Rattle.mm_worlds.proofs.Decided.{worlds_keep}
 use Rattle.mm_worlds.proofs.laws.worlds_keep_promises.Goals as goal
 
 pub returns : goal.returns

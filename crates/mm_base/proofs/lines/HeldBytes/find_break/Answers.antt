@@ -1,4 +1,4 @@
-use Rattle.mm_base.proofs.LineLemmas.{unbroken-joined, unbroken-before, HasBreakAt-range}
+use Rattle.mm_base.proofs.ReadingLemmas.{unbroken-joined, unbroken-before, HasBreakAt-range}
 use Rattle.mm_base.proofs.lines.HeldBytes.find_break.Goals as goal
 
 pub invariant_of-self-clause-unbroken : goal.invariant_of-self-clause-unbroken

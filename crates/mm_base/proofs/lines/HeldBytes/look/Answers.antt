@@ -1,5 +1,5 @@
 use Rattle.mm_base.proofs.Below.{◌<◌, ◌-◌, arith, drop, length, length-drop, length-take}
-use Rattle.mm_base.specs.HeldBytes.{held_bytes}
+use Rattle.mm_base.specs.Streams.{held_bytes}
 use Rattle.mm_base.proofs.ReadingLemmas.{long_with_break, long_unbroken}
 use Rattle.mm_base.proofs.lines.HeldBytes.look.Goals as goal
 

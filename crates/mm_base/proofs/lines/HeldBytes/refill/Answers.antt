@@ -1,5 +1,5 @@
 use Rattle.std.proofs.Common.{◌+◌, ◌≤◌, ◌<◌, length, sym, ◌∙◌, arith}
-use Rattle.mm_base.proofs.LineLemmas.{range-same, SourceRefills-none, SourceRefills-some}
+use Rattle.mm_base.proofs.ReadingLemmas.{range-same, SourceRefills-none, SourceRefills-some}
 use Rattle.mm_base.proofs.lines.HeldBytes.refill.Goals as goal
 
 pub invariant_of-self-clause-unbroken : goal.invariant_of-self-clause-unbroken

@@ -1,5 +1,5 @@
 use Rattle.mm_base.proofs.Below.{◌≡◌, ◌-◌, [], length, TakesHeldBytes}
-use Rattle.mm_base.specs.HeldBytes.{held_bytes}
+use Rattle.mm_base.specs.Streams.{held_bytes}
 use Rattle.mm_base.proofs.lines.HeldBytes.see.Given as goal
 
 abbrev pub invariant-refills : goal.invariant-refills

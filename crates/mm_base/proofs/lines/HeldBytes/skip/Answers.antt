@@ -1,6 +1,6 @@
 use Rattle.std.proofs.lemmas.Grind.{common_steps}
 use Rattle.mm_base.proofs.Below.{◌≤◌, ◌+◌, ◌-◌, arith, drop, length-take}
-use Rattle.mm_base.proofs.LineLemmas.{drop-range}
+use Rattle.mm_base.proofs.ReadingLemmas.{drop-range}
 use Rattle.mm_base.proofs.lines.HeldBytes.skip.Goals as goal
 
 pub returns-clause-rest : goal.returns-clause-rest

@@ -1,5 +1,5 @@
 use Rattle.mm_base.proofs.Below.{◌-◌, ◌∙◌, ap, List, refl, slice_range, ℕ}
-use Rattle.mm_base.specs.HeldBytes.{held_bytes}
+use Rattle.mm_base.specs.Streams.{held_bytes}
 use Rattle.mm_base.proofs.ReadingLemmas.{reads_line}
 use Rattle.mm_base.proofs.lines.LineReader.next.Goals as goal
 

@@ -1,7 +1,7 @@
 use Rattle.mm_check.proofs.Below.{ℕ, ◌≡◌, ◌+◌, List, length, take, ap, subst, sym, arith, length-map, length-take, world_of, Event}
 use Rattle.mm_check.proofs.Below.{event_of, events_of, numbered_messages, StandsBehind}
 use Rattle.std.proofs.lemmas.Result.{on_ok_weaker}
-use Rattle.mm_check.specs.PremiseDecision.{LooksAtEvent}
+use Rattle.mm_check.specs.Numbering.{LooksAtEvent}
 use Rattle.mm_check.specs.declared.deciding.Decider.{Decider}
 use Rattle.mm_check.proofs.DecidingLaws.{heard_after, looks_then, room_for, stands_next}
 use Rattle.mm_numbering.proofs.GuardLaws.{events_more}

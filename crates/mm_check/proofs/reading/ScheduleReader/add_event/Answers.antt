@@ -1,5 +1,5 @@
 use Rattle.std.proofs.Common.{subst}
-use Rattle.mm_schedule.specs.Grammar.{event_at}
+use Rattle.mm_schedule.specs.Events.{event_at}
 use Rattle.mm_check.specs.CheckStage.{RecordedRun, InEvents, answer_to_event}
 use Rattle.mm_check.specs.Steps.{LineComesTo}
 use Rattle.mm_check.proofs.Below.{Err}

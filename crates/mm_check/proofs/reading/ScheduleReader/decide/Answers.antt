@@ -1,6 +1,6 @@
 use Rattle.std.specs.Prelude.{◌≡◌}
 use Rattle.std.proofs.Common.{rules}
-use Rattle.mm_numbering.specs.Guards.{events_of}
+use Rattle.mm_numbering.specs.Listing.{events_of}
 use Rattle.mm_check.proofs.reading.ScheduleReader.decide.Goals as goal
 
 pub returns : goal.returns

@@ -2,7 +2,7 @@ use Rattle.std.specs.Prelude.{◌≡◌}
 use Rattle.std.proofs.Common.{rules}
 use Rattle.mm_check.proofs.Below.{ap, arith, event_of, events_of, length, length-map}
 use Rattle.mm_replay.specs.Progress.{running_replay}
-use Rattle.mm_check.proofs.RunLaws.{run_verdicts}
+use Rattle.mm_check.proofs.FewLaws.{run_verdicts}
 use Rattle.mm_check.proofs.reading.ScheduleReader.into_verdicts.Goals as goal
 
 pub verdicts_on-requires : goal.verdicts_on-requires

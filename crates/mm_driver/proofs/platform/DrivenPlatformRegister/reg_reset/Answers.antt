@@ -1,5 +1,5 @@
 use Rattle.std.proofs.Common.{refl}
-use Rattle.mm_platform.specs.Steps.{ResetRegister}
+use Rattle.mm_platform.specs.Standing.{ResetRegister}
 use Rattle.mm_files.proofs.Above.{goes_untold}
 use Rattle.mm_driver.proofs.platform.DrivenPlatformRegister.reg_reset.Goals as goal
 

@@ -1,6 +1,6 @@
 use Rattle.std.proofs.Common.{sym, ◌∙◌}
 use Rattle.std.proofs.lemmas.Result.{IfOk-weaker}
-use Rattle.mm_expect.proofs.Walking.{walks_on}
+use Rattle.mm_expect.proofs.Settling.{walks_on}
 use Rattle.mm_expect.proofs.chronicle.Chronicle.+walk.Goals as goal
 
 pub returns-in-None : goal.returns-in-None

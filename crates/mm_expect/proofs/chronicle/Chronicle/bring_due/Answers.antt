@@ -1,5 +1,5 @@
 use Rattle.mm_expect.proofs.Below.{map, take, ◌+◌, [], subst, sym, Foreign, due_values, ChronicleView, ChronicleGoes}
-use Rattle.mm_expect.proofs.Walking.{bring_one, bring_none}
+use Rattle.mm_expect.proofs.Settling.{bring_one, bring_none}
 use Rattle.mm_expect.proofs.chronicle.Chronicle.bring_due.Goals as goal
 use Rattle.mm_expect.proofs.chronicle.Chronicle.bring_due.Goals.{then-meddle-step+in_ok-bring, else-meddle-step}
 

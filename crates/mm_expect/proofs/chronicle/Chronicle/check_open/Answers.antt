@@ -1,6 +1,6 @@
 use Rattle.mm_expect.proofs.Below.{sym, ◌∙◌}
 use Rattle.mm_expect.proofs.Asking.{unbroken}
-use Rattle.mm_expect.proofs.CheckLaws.{check_broken, check_closed, check_stopped}
+use Rattle.mm_expect.proofs.CallLaws.{check_broken, check_closed, check_stopped}
 use Rattle.mm_expect.proofs.chronicle.Chronicle.check_open.Goals as goal
 
 pub returns-in-Some : goal.returns-in-Some

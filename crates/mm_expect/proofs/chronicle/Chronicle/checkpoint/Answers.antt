@@ -1,6 +1,6 @@
 use Rattle.mm_expect.proofs.Below.{sym, ap, ◌∙◌, refl, false, Basic, Opt, HasNone, NoSegment, ChronicleView}
 use Rattle.std.proofs.lemmas.Result.{IfOk-weaker}
-use Rattle.mm_expect.proofs.CheckLaws.{check_shut}
+use Rattle.mm_expect.proofs.CallLaws.{check_shut}
 use Rattle.mm_expect.proofs.chronicle.Chronicle.checkpoint.Goals as goal
 
 pub returns-in-Basic : goal.returns-in-Basic

@@ -1,5 +1,5 @@
 use Rattle.std.proofs.lemmas.Result.{on_ok_weaker}
-use Rattle.mm_expect.proofs.Walking.{changes_then}
+use Rattle.mm_expect.proofs.Settling.{changes_then}
 use Rattle.mm_expect.proofs.chronicle.Chronicle.step.Goals as goal
 
 pub returns-in_ok-bring_due-in-Changes : goal.returns-in_ok-bring_due-in-Changes

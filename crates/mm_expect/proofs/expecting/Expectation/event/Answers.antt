@@ -3,10 +3,8 @@ use Rattle.mm_expect.proofs.Below.{expected_state_after}
 use Rattle.mm_schedule.specs.declared.reply.Reply.{Reply}
 use Rattle.mm_expect.proofs.Below.{length, arith, world_of, IsAfter, IsDecided, IsGenuineEvent}
 use Rattle.mm_expect.specs.declared.expecting.ExpectedOutcome.{ExpectedOutcome}
-use Rattle.mm_expect.specs.HeardEvent.{HearsEvent}
-use Rattle.mm_expect.proofs.AfterLaws.{event_state, event_heard, goes_after, grown_one}
-use Rattle.mm_expect.proofs.EventLaws.{printable}
-use Rattle.mm_expect.proofs.JudgeLaws.{event_decided}
+use Rattle.mm_expect.specs.ExpectedState.{HearsEvent}
+use Rattle.mm_expect.proofs.EventLaws.{event_state, event_heard, goes_after, grown_one, printable, event_decided}
 use Rattle.mm_expect.proofs.expecting.Expectation.event.Goals as goal
 
 pub returns-clause-state : goal.returns-clause-state

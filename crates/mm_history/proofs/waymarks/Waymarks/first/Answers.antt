@@ -1,5 +1,5 @@
-use Rattle.mm_history.specs.Waymarks.{IsStage, IsWaymark}
-use Rattle.mm_history.specs.WaymarkLaws.{each_of_none}
+use Rattle.mm_history.specs.Naming.{IsStage, IsWaymark}
+use Rattle.mm_history.specs.MarkLaws.{each_of_none}
 use Rattle.mm_history.proofs.waymarks.Waymarks.first.Goals as goal
 
 pub returns : goal.returns

@@ -1,7 +1,7 @@
 use Rattle.mm_history.proofs.Below.{ap, sym, ◌∙◌, ◌≡◌, refl, subst, [], ◌∷◌, List}
 use Rattle.std.specs.List.{AllByRecursion}
 use Rattle.mm_model.specs.ListLaws.{each_append}
-use Rattle.mm_history.specs.Waymarks.{IsWaymark}
+use Rattle.mm_history.specs.Naming.{IsWaymark}
 use Rattle.mm_history.specs.declared.waymarks.Waymark.{Waymark}
 use Rattle.mm_history.proofs.KnownLaws.{kept_mark, digest_in}
 use Rattle.mm_history.proofs.waymarks.Waymarks.keep.Goals as goal

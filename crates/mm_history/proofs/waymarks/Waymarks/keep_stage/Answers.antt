@@ -1,7 +1,7 @@
 use Rattle.mm_history.proofs.Below.{sym, subst, [], ◌∷◌, List, RegisterEntry}
 use Rattle.std.specs.List.{AllByRecursion}
 use Rattle.mm_model.specs.ListLaws.{each_append}
-use Rattle.mm_history.specs.Waymarks.{IsStage}
+use Rattle.mm_history.specs.Naming.{IsStage}
 use Rattle.mm_history.specs.declared.waymarks.SegmentStart.{SegmentStart}
 use Rattle.mm_history.proofs.KnownLaws.{kept_stage}
 use Rattle.mm_history.proofs.waymarks.Waymarks.keep_stage.Goals as goal

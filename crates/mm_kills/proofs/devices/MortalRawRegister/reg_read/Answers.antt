@@ -1,5 +1,5 @@
 use Rattle.std.proofs.Common.{refl, ◌∙◌}
-use Rattle.mm_platform.specs.Steps.{ReadRegister}
+use Rattle.mm_platform.specs.Standing.{ReadRegister}
 use Rattle.mm_files.proofs.Above.{goes_untold}
 use Rattle.mm_kills.proofs.devices.MortalRawRegister.reg_read.Goals as goal
 

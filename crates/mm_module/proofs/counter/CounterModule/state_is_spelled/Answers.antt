@@ -1,5 +1,5 @@
 use Rattle.std.proofs.Common.{refl}
-use Rattle.mm_module.specs.CounterTable.{is_state}
+use Rattle.mm_module.specs.Meaning.{is_state}
 use Rattle.mm_module.specs.LineLaws.{are_bytes-Fits}
 use Rattle.mm_module.proofs.counter.CounterModule.state_is_spelled.Goals as goal
 

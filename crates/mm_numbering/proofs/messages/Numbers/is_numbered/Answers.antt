@@ -1,5 +1,5 @@
 use Rattle.mm_numbering.proofs.Below.{◌∙◌, ℕ, List, ap, sym, bytes_eq, option_copied}
-use Rattle.mm_numbering.proofs.MessageLaws.{listed_at}
+use Rattle.mm_numbering.proofs.ListingLaws.{listed_at}
 use Rattle.mm_numbering.proofs.messages.Numbers.is_numbered.Goals as goal
 
 pub returns-in-Some : goal.returns-in-Some

@@ -1,8 +1,7 @@
 use Rattle.std.proofs.Common.{refl, rules}
 use Rattle.std.proofs.lemmas.Result.{on_ok_weaker}
 use Rattle.mm_numbering.proofs.Below.{◌∙◌, ◌++◌, ◌∷◌, [], ℕ, List, None, Some, ap}
-use Rattle.mm_numbering.proofs.ListingLaws.{adds_same}
-use Rattle.mm_numbering.proofs.MessageLaws.{lists-first, lists-still, lists-known}
+use Rattle.mm_numbering.proofs.ListingLaws.{adds_same, lists-first, lists-still, lists-known}
 use Rattle.mm_numbering.proofs.messages.Numbers.list.Goals as goal
 
 pub returns-in-None-clause-lists : goal.returns-in-None-clause-lists

@@ -1,6 +1,6 @@
 use Rattle.std.proofs.Common.{subst}
 use Rattle.mm_numbering.proofs.Below.{◌∙◌, ◌++◌, ◌∷◌, [], ℕ, List, ap, AddsDigest}
-use Rattle.mm_numbering.proofs.MessageLaws.{lists-shared}
+use Rattle.mm_numbering.proofs.ListingLaws.{lists-shared}
 use Rattle.mm_numbering.proofs.messages.Numbers.list_shared.Goals as goal
 
 pub returns-clause-lists : goal.returns-clause-lists

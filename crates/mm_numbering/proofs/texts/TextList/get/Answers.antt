@@ -2,7 +2,7 @@ use Rattle.std.proofs.Common.{◌∙◌, ◌≤◌, ℕ, List, ap, sym, subst, l
 use Rattle.std.specs.List.{slice_get}
 use Rattle.std.specs.Option.{option_map}
 use Rattle.mm_numbering.specs.TextList.{bytes_in}
-use Rattle.mm_numbering.proofs.TextLaws.{found_at, within_at, slice_get-map}
+use Rattle.mm_numbering.proofs.GuardLaws.{found_at, within_at, slice_get-map}
 use Rattle.mm_numbering.proofs.texts.TextList.get.Goals as goal
 
 pub bytes_in-requires-clause-rises : goal.bytes_in-requires-clause-rises

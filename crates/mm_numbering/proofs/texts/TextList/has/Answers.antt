@@ -1,5 +1,5 @@
 use Rattle.mm_numbering.proofs.Below.{◌∙◌, sym, arith}
-use Rattle.mm_numbering.proofs.MessageLaws.{listed_at, none_more, none_at_all}
+use Rattle.mm_numbering.proofs.ListingLaws.{listed_at, none_more, none_at_all}
 use Rattle.mm_numbering.proofs.texts.TextList.has.Goals as goal
 
 pub returns-then-eq : goal.returns-then-eq

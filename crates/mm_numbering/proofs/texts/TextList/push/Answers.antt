@@ -1,5 +1,5 @@
 use Rattle.std.proofs.Common.{◌∙◌, ◌++◌, ◌∷◌, [], ℕ, List, ap, length}
-use Rattle.mm_numbering.proofs.TextLaws.{within-longer, within-pushed, parts-with}
+use Rattle.mm_numbering.proofs.GuardLaws.{within-longer, within-pushed, parts-with}
 use Rattle.mm_numbering.proofs.texts.TextList.push.Goals as goal
 
 pub invariant_of-self-in_err-push : goal.invariant_of-self-in_err-push

@@ -1,5 +1,5 @@
 use Rattle.mm_module.specs.Batches.{batch_of}
-use Rattle.mm_opt.proofs.Acting.{advanced}
+use Rattle.mm_opt.proofs.Reading.{advanced}
 use Rattle.mm_opt.proofs.call.Call.advance.Goals as goal
 
 pub returns : goal.returns

@@ -1,5 +1,5 @@
 use Rattle.mm_pages.proofs.Below.{◌≤◌, ap, ◌∙◌, subst, next_count, Sheets}
-use Rattle.mm_pages.proofs.SheetLaws.{length_not_set}
+use Rattle.mm_pages.proofs.BytesLaws.{length_not_set}
 use Rattle.mm_pages.proofs.memory.MemPagesPageDevice.set_length.Goals as goal
 
 pub returns-then-is_to_fail_in-clause-sets : goal.returns-then-is_to_fail_in-clause-sets

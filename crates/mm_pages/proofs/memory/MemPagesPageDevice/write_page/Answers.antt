@@ -1,5 +1,5 @@
 use Rattle.mm_pages.proofs.Below.{◌≤◌, ap, ◌∙◌, subst, next_count, Sheets}
-use Rattle.mm_pages.proofs.SheetLaws.{page_not_written}
+use Rattle.mm_pages.proofs.BytesLaws.{page_not_written}
 use Rattle.mm_pages.proofs.memory.MemPagesPageDevice.write_page.Goals as goal
 
 pub returns-then-is_to_fail_in-clause-writes : goal.returns-then-is_to_fail_in-clause-writes

@@ -1,7 +1,5 @@
 use Rattle.mm_pages.proofs.Below.{ℕ, ◌≡◌, [], ap, ◌∙◌, CachedDevice, PageStanding, KeepsStep, rows_with}
-use Rattle.mm_pages.proofs.PageLaws.{slots_stay}
-use Rattle.mm_pages.proofs.RenewalLaws.{reads_slot}
-use Rattle.mm_pages.proofs.StepLaws.{step_left}
+use Rattle.mm_pages.proofs.RenewalLaws.{slots_stay, reads_slot, step_left}
 use Rattle.mm_pages.proofs.store.PageStoreStore.read.Goals as goal
 
 -- a read that failed changed no slot

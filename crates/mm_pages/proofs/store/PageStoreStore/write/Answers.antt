@@ -1,8 +1,7 @@
 use Rattle.mm_pages.proofs.Below.{ℕ, ◌≡◌, false, true, List, [], Err, is_err, ap, sym, ◌∙◌, subst, CachedDevice, PageStanding, WritesSlot}
 use Rattle.mm_pages.proofs.Below.{SlotFailed, store_standing_on, slots_with_bytes, KeepsStep, Option, Digest, Rows, rows_with}
-use Rattle.mm_pages.proofs.RowLaws.{with_row-twice}
-use Rattle.mm_pages.proofs.RenewalLaws.{FailsUse, failed_writes, write_failed, put_renewed, put_changes, put_settled, put_keeps}
-use Rattle.mm_pages.proofs.StepLaws.{step_left}
+use Rattle.mm_pages.proofs.RenewalLaws.{with_row-twice, FailsUse, failed_writes, write_failed, put_renewed, put_changes, put_settled}
+use Rattle.mm_pages.proofs.RenewalLaws.{put_keeps, step_left}
 use Rattle.mm_pages.proofs.store.PageStoreStore.write.Goals as goal
 
 -- a write that failed, of a store that is seen so

@@ -1,6 +1,6 @@
 use Rattle.std.proofs.Common.{◌≡◌, ◌≤◌, arith}
-use Rattle.mm_bytes.specs.Faults.{next_count}
-use Rattle.mm_platform.proofs.LettingIn.{ahead-falls}
+use Rattle.mm_bytes.specs.Limits.{next_count}
+use Rattle.mm_platform.proofs.Telling.{ahead-falls}
 use Rattle.mm_platform.proofs.memory.MemPlatform.let_in.Goals as goal
 
 pub invariant_of-self-else-self : goal.invariant_of-self-else-self

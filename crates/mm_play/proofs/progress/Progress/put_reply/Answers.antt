@@ -1,5 +1,5 @@
 use Rattle.std.proofs.Common.{◌∙◌, refl, sym}
-use Rattle.mm_play.proofs.Staging.{refused_full}
+use Rattle.mm_play.proofs.Stopped.{refused_full}
 use Rattle.mm_play.proofs.progress.Progress.put_reply.Goals as goal
 
 pub returns-then-is_full : goal.returns-then-is_full

@@ -1,4 +1,4 @@
-use Rattle.mm_play.proofs.Staging.{spelled}
+use Rattle.mm_play.proofs.Stopped.{spelled}
 use Rattle.mm_play.proofs.progress.Progress.refusal.Goals as goal
 
 pub returns-in-Ok-true : goal.returns-in-Ok-true

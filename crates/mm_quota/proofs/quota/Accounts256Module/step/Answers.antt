@@ -1,5 +1,5 @@
 use Rattle.mm_quota.proofs.Below.{rules, arith, Stepped}
-use Rattle.mm_quota.proofs.ActLaws.{IfOk-others}
+use Rattle.mm_quota.proofs.PlaceLaws.{IfOk-others}
 use Rattle.mm_quota.proofs.quota.Accounts256Module.step.Goals as goal
 
 -- the new state is that of the table, where the other accounts stay

@@ -1,5 +1,5 @@
 use Rattle.mm_receipt.proofs.Below.{sym, ◌∙◌, ap, Option, CheckState, AskedRequest}
-use Rattle.mm_receipt.specs.Tallies.{tally_of}
+use Rattle.mm_receipt.specs.Reports.{tally_of}
 use Rattle.mm_receipt.proofs.Playing.{takes-second}
 use Rattle.mm_receipt.proofs.player.ReceiptPlayerPlayer.reply.Goals as goal
 

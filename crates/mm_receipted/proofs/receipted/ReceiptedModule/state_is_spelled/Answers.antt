@@ -1,6 +1,6 @@
 use Rattle.mm_receipted.proofs.Below.{sym, ◌∙◌, kept_state_of}
 use Rattle.mm_module.specs.LineLaws.{are_bytes-Fits}
-use Rattle.mm_receipted.proofs.StateLaws.{spelled-then, spelled-else}
+use Rattle.mm_receipted.proofs.TaggedLaws.{spelled-then, spelled-else}
 use Rattle.mm_receipted.proofs.receipted.ReceiptedModule.state_is_spelled.Goals as goal
 
 pub returns-then-front_is_formed : goal.returns-then-front_is_formed

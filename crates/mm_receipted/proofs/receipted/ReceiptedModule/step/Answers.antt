@@ -1,5 +1,5 @@
-use Rattle.mm_receipted.specs.Views.{kept_state_of}
-use Rattle.mm_receipted.proofs.StateLaws.{long-at, room-at, inside-at}
+use Rattle.mm_receipted.specs.ReceiptListing.{kept_state_of}
+use Rattle.mm_receipted.proofs.TaggedLaws.{long-at, room-at, inside-at}
 use Rattle.mm_receipted.proofs.receipted.ReceiptedModule.step.Goals as goal
 
 pub read_kept-kept-requires : goal.read_kept-kept-requires

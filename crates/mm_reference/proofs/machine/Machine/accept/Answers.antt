@@ -1,5 +1,5 @@
 use Rattle.std.proofs.Common.{◌∙◌}
-use Rattle.mm_reference.proofs.Runs.{spelled_at, IsStateOfRun-push}
+use Rattle.mm_reference.proofs.EntryLaws.{spelled_at, IsStateOfRun-push}
 use Rattle.mm_reference.proofs.machine.Machine.accept.Goals as goal
 
 pub step-requires-clause-spelled : goal.step-requires-clause-spelled

@@ -1,5 +1,5 @@
-use Rattle.mm_replay.proofs.Progressing.{keeps_on, keeps_still}
-use Rattle.mm_world.specs.Views.{event_of_view}
+use Rattle.mm_replay.proofs.Telling.{keeps_on, keeps_still}
+use Rattle.mm_world.specs.Lengths.{event_of_view}
 use Rattle.mm_replay.proofs.replaying.FollowedWorld.follow.Goals as goal
 
 pub invariant_of-self : goal.invariant_of-self

@@ -1,5 +1,5 @@
 use Rattle.std.proofs.Common.{ap, ◌∙◌, ℕ}
-use Rattle.mm_ask.specs.Operating.{write_step_of}
+use Rattle.mm_ask.specs.WholeAsk.{write_step_of}
 use Rattle.mm_digest.specs.declared.variant.Variant.{Variant}
 use Rattle.mm_machine.specs.OpSteps.{number_of}
 use Rattle.mm_slots.proofs.Stepping.{ask_broken, ask_next, breaks_next}

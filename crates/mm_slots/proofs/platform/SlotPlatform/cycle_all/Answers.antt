@@ -1,6 +1,6 @@
 use Rattle.std.proofs.Common.{arith, rules}
 use Rattle.std.proofs.lemmas.Grind.{common_steps}
-use Rattle.mm_slots.proofs.Powering.{one_more}
+use Rattle.mm_slots.proofs.Growing.{one_more}
 use Rattle.mm_slots.proofs.platform.SlotPlatform.cycle_all.Goals as goal
 
 pub loop-slot-preserved : goal.loop-slot-preserved

@@ -1,4 +1,4 @@
-use Rattle.mm_slots.proofs.Powering.{cycles_selected}
+use Rattle.mm_slots.proofs.Growing.{cycles_selected}
 use Rattle.mm_slots.proofs.platform.SlotPlatformPlatform.cycle.Goals as goal
 
 pub returns-clause-cycles : goal.returns-clause-cycles

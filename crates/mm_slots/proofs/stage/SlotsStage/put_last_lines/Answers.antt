@@ -1,5 +1,4 @@
-use Rattle.mm_slots.proofs.Growing.{all_most}
-use Rattle.mm_slots.proofs.Totalling.{are_counted}
+use Rattle.mm_slots.proofs.Growing.{all_most, are_counted}
 use Rattle.mm_slots.proofs.stage.SlotsStage.put_last_lines.Goals as goal
 
 pub put_ends-requires-clause-counted : goal.put_ends-requires-clause-counted

@@ -1,7 +1,6 @@
 use Rattle.mm_slots.proofs.Below.{◌≡◌, ◌∙◌, List, ap, arith, Row, SlotsState}
-use Rattle.mm_slots.specs.WholeSlots.{committed_count_in, issued_count_in}
-use Rattle.mm_slots.proofs.Growing.{all_most}
-use Rattle.mm_slots.proofs.Totalling.{requests_few, snapshots_few}
+use Rattle.mm_slots.specs.Stage.{committed_count_in, issued_count_in}
+use Rattle.mm_slots.proofs.Growing.{all_most, requests_few, snapshots_few}
 use Rattle.mm_slots.proofs.stage.SlotsStage.report.Goals as goal
 
 pub overflow_cast-result : goal.overflow_cast-result

@@ -1,5 +1,5 @@
 use Rattle.mm_slots.proofs.Below.{◌≡◌, ℕ, Some, length, subst, event_at}
-use Rattle.mm_slots.proofs.Progressing.{event_inside}
+use Rattle.mm_slots.proofs.Alone.{event_inside}
 use Rattle.mm_slots.proofs.stage.SlotsStagePlayStage.play.Goals as goal
 
 pub follow-requires-clause-inside : goal.follow-requires-clause-inside

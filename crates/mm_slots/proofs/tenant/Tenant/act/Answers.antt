@@ -1,4 +1,4 @@
-use Rattle.mm_slots.proofs.Seeing.{acts_on, few_on, fits_on, lacks_on}
+use Rattle.mm_slots.proofs.Rowing.{acts_on, few_on, fits_on, lacks_on}
 use Rattle.mm_slots.proofs.tenant.Tenant.act.Goals as goal
 
 pub act-requires-clause-few : goal.act-requires-clause-few

@@ -1,5 +1,5 @@
 use Rattle.mm_slots.proofs.Below.{refl, None, Parts}
-use Rattle.mm_slots.proofs.Starting.{first_by, fits_there, row_there}
+use Rattle.mm_slots.proofs.Fitting.{first_by, fits_there, row_there}
 use Rattle.mm_slots.proofs.tenant.Tenant.first.Goals as goal
 
 pub invariant_of-result : goal.invariant_of-result

@@ -1,4 +1,4 @@
-use Rattle.mm_slots.proofs.Seeing.{loses_on}
+use Rattle.mm_slots.proofs.Rowing.{loses_on}
 use Rattle.mm_slots.proofs.tenant.Tenant.lose_power.Goals as goal
 
 pub returns : goal.returns

@@ -1,5 +1,5 @@
 use Rattle.std.proofs.Common.{refl, ◌∙◌}
-use Rattle.mm_platform.specs.Steps.{ExtendRegister}
+use Rattle.mm_platform.specs.Standing.{ExtendRegister}
 use Rattle.mm_files.proofs.Above.{goes_untold}
 use Rattle.mm_tables.proofs.failing.FailingRawRegister.reg_extend.Goals as goal
 

@@ -1,6 +1,6 @@
 use Rattle.std.proofs.Common.{subst}
 use Rattle.mm_platform.specs.Standing.{Standing}
-use Rattle.mm_move.specs.Moves.{AreMoveSteps}
+use Rattle.mm_move.specs.Cells.{AreMoveSteps}
 use Rattle.mm_told_moves.specs.ToldMovePromise.{acceptance_finds}
 use Rattle.mm_told_moves.proofs.Reading.{found_in}
 use Rattle.mm_told_moves.proofs.moves.AcceptanceHostMove.find.Goals as goal

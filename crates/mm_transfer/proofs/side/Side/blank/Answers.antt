@@ -1,4 +1,4 @@
-use Rattle.mm_transfer.proofs.SideFirst.{blank_new}
+use Rattle.mm_transfer.proofs.SideEvents.{blank_new}
 use Rattle.mm_transfer.proofs.side.Side.blank.Goals as goal
 
 pub returns : goal.returns

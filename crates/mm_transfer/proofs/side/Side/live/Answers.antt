@@ -1,4 +1,4 @@
-use Rattle.mm_transfer.proofs.SideFirst.{live_new}
+use Rattle.mm_transfer.proofs.SideEvents.{live_new}
 use Rattle.mm_transfer.proofs.side.Side.live.Goals as goal
 
 pub returns-in-Ok : goal.returns-in-Ok

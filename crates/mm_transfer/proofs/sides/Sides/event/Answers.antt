@@ -1,9 +1,8 @@
 use Rattle.std.proofs.Common.{arith}
 use Rattle.std.proofs.lemmas.Grind.{common_steps}
 use Rattle.mm_transfer.proofs.Below.{◌≡◌, ◌∙◌, ℕ, ap, Digests, BothSides, Inside, both_with, side_event_of, side_in}
-use Rattle.mm_transfer.proofs.Acting.{Comes, event_first, event_second}
-use Rattle.mm_transfer.proofs.Wanting.{held_wants}
-use Rattle.mm_transfer.specs.Sides.{TransferSides}
+use Rattle.mm_transfer.proofs.Acting.{Comes, event_first, event_second, held_wants}
+use Rattle.mm_transfer.specs.Events.{TransferSides}
 use Rattle.mm_transfer.proofs.sides.Sides.event.Goals as goal
 use Rattle.mm_transfer.proofs.sides.Sides.event.Goals.{in-First, in-Second}
 

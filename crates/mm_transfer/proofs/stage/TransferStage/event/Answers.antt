@@ -1,5 +1,5 @@
 use Rattle.mm_transfer.proofs.Below.{arith, ℕ, List, length, ap, pair_of, side_event_of}
-use Rattle.mm_transfer.proofs.Wanting.{counts_same}
+use Rattle.mm_transfer.proofs.Acting.{counts_same}
 use Rattle.mm_transfer.proofs.stage.TransferStage.event.Goals as goal
 
 pub invariant_of-self : goal.invariant_of-self

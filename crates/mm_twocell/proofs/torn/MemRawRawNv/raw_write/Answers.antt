@@ -1,5 +1,5 @@
 use Rattle.std.proofs.Common.{rules}
-use Rattle.mm_twocell.proofs.Tearing.{write_fails}
+use Rattle.mm_twocell.proofs.Writing.{write_fails}
 use Rattle.mm_twocell.proofs.torn.MemRawRawNv.raw_write.Goals as goal
 
 pub returns-then-fails-clause-goes : goal.returns-then-fails-clause-goes

@@ -1,5 +1,5 @@
 use Rattle.mm_world.proofs.Below.{IfOk, OnErr, subst, Event, WorldFollows, outcome_in, meddles_of, WorldLacksMemory, world_few}
-use Rattle.mm_schedule.specs.Texts.{event_in}
+use Rattle.mm_schedule.specs.Events.{event_in}
 use Rattle.mm_world.proofs.world.World.event_in_line.Goals as goal
 
 pub returns-clause-ok : goal.returns-clause-ok

@@ -1,5 +1,5 @@
 use Rattle.mm_world.proofs.Below.{world_few}
-use Rattle.mm_world.specs.Views.{event_of_view}
+use Rattle.mm_world.specs.Lengths.{event_of_view}
 use Rattle.mm_world.proofs.Worlds.{keeps_world, follows_world, wants_world, printed_world, grown_world}
 use Rattle.mm_world.proofs.world.World.follow.Goals as goal
 
