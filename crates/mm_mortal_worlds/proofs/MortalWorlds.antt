@@ -243,7 +243,7 @@ module _ (meaning : Meaning) (link : Link) where
 
   batches_same : (world : World) (stages : List MortalWorldStage) (f : IsMortalWorldLife Opt meaning link world stages)
       (e : WorldEnds Opt meaning link world stages f)
-      → world_batches meaning link world (ended Opt meaning link world stages f e) (life Opt meaning link world stages f e)
+      → world_batches Opt meaning link world (ended Opt meaning link world stages f e) (life Opt meaning link world stages f e)
       ≡ mortal_world_batches meaning link world stages f
   batches_same world [] f e = refl
   batches_same world (stage ∷ stages) f e =
@@ -284,7 +284,7 @@ opt_one end law meaning lawful link world stages f start told clear apart asked 
     (subst (λ (messages : List (List ℕ)). IsClear (start_message Opt meaning.id ∷ messages))
     (sym (opt_messages_same meaning link world stages f e)) clear)
     (subst (λ (values : List (List ℕ)). AreNoGuards link.barrier values
-    (world_batches meaning link world (ended Opt meaning link world stages f e) (life Opt meaning link world stages f e)))
+    (world_batches Opt meaning link world (ended Opt meaning link world stages f e) (life Opt meaning link world stages f e)))
     (sym (values_same meaning link world stages f e))
     (subst (λ (batches : List Batch). AreNoGuards link.barrier (mortal_world_values meaning link world stages f) batches)
     (sym (batches_same meaning link world stages f e)) apart)) (honest Opt meaning link begun world stages f e asked))
@@ -317,9 +317,9 @@ opt_one_or_evidence end law meaning lawful link world stages f start told =
             (mortal_world_values meaning link world stages f) batches) (batches_same meaning link world stages f e)
             (subst (λ (values : List (List ℕ)). HasClash at
             (start_message Opt meaning.id ∷ mortal_opt_messages_from meaning link world stages f) values
-            (world_batches meaning link world stages' life')) (values_same meaning link world stages f e)
+            (world_batches Opt meaning link world stages' life')) (values_same meaning link world stages f e)
             (subst (λ (messages : List (List ℕ)). HasClash at (start_message Opt meaning.id ∷ messages)
-            (world_values meaning link world stages' life') (world_batches meaning link world stages' life'))
+            (world_values meaning link world stages' life') (world_batches Opt meaning link world stages' life'))
             (opt_messages_same meaning link world stages f e) clash)))
         | inr b ↦ inr (breach Opt meaning link begun world stages f e b)
       ])

@@ -30,9 +30,9 @@ use Rattle.mm_move.specs.declared.refusal.MoveRefusal.{MoveRefusal}
 use Rattle.mm_move.proofs.Above.{bytes_tell}
 use Rattle.mm_life.specs.Deeds.{LifeCall}
 use Rattle.mm_life.specs.Stages.{LifePart}
-use Rattle.mm_worlds.specs.Premises.{Handed, accepted_snapshots, key_of}
-use Rattle.mm_worlds.proofs.Between.{changed_at, IsAwaited, reading_of, IsGoodPaper, IsGoodTicket, IsInOrder, IsKeyedGenuine, LeftFor}
-use Rattle.mm_worlds.proofs.Between.{anchor_at, instance_at, papers_on, HoldsCell, HoldsOwn, IsOwnCell}
+use Rattle.mm_worlds.specs.Premises.{Handed, accepted_snapshots, key_of, instance_at, IsGenuineUnder}
+use Rattle.mm_worlds.proofs.Between.{changed_at, IsAwaited, reading_of, IsGoodPaper, IsGoodTicket, IsInOrder, LeftFor}
+use Rattle.mm_worlds.proofs.Between.{anchor_at, papers_on, HoldsCell, HoldsOwn, IsOwnCell}
 use Rattle.mm_worlds.proofs.Moving.{MoveOutcome, made, move_comes, refused, repeated}
 use Rattle.mm_worlds.proofs.Beside.{IsBeside, move_beside}
 use Rattle.mm_worlds.proofs.Orders.{StandsInOrder, given_snapshots, arrived, order_arrived}
@@ -106,6 +106,15 @@ module _ (variant : Variant) (meaning : Meaning) (link : Link) (ticket : List �
       let barred = passes (is_barred variant c.barrier link) _ _ ready own.1 in
       again_by c ready (right_ticket meaning variant link.key ticket) refl barred.1
 
+  -- where the module lives, the cell is as before
+  pub accepted_same : (c : Cell) (old new : Standing) (result : Result Accepted MoveRefusal)
+      → MoveOutcome (acceptance_in meaning variant link ticket (Ok (moved.Live c))) old new result → new.cell ≡ old.cell
+  accepted_same c old new result (refused same none) = same
+  accepted_same c old new result (repeated ready f n same gives) = same
+  accepted_same c old new result (made ready bytes f n wrote gives) =
+      let r = again_ready c ready f in
+      let clash : None ≡ Some bytes = sym r.next_is ∙ n in absurd (cc)
+
 -- the cell of one that enters stands for the history
 pub entered_cell : (variant : Variant) (meaning : Meaning) (link : Link) (y : History) (items : List RegisterEntry) (c : WaitingCell)
     (content : Content) → IsOwnCell variant meaning link (moved.Waiting c) → y.is_open ≡ false
@@ -119,6 +128,13 @@ entered_cell variant meaning link y items c content own shut summary = λ j. rec
   key = c.key;
   barrier = own.2 j;
 }
+
+-- a history goes on where the module enters, with what the register shows there
+pub record ShowsHistory (variant : Variant) (meaning : Meaning) (link : Link) (all others : List (List ℕ)) (asked : List Batch)
+    (y : History) (new : Standing) : Type 0 where
+  pub entries : List RegisterEntry
+  pub register : (key : List ℕ) → RegisterStands variant (instance_at variant meaning link key) new (record y { items = entries })
+  pub within : y.is_open ≡ false → IsWithin all others asked (instance_at variant meaning link link.key) (record y { items = entries })
 
 module _ {variant : Variant} {meaning : Meaning} {link : Link} {all others : List (List ℕ)} {asked : List Batch}
     {IsSeen : Standing → LifePart → Standing → Type 0} {IsStill : Standing → List LifeCall → Type 0}
@@ -135,12 +151,6 @@ module _ {variant : Variant} {meaning : Meaning} {link : Link} {all others : Lis
 
   abbrev Left : Option (List ℕ) → List ℕ → List ℕ → Type 0
   Left going = LeftFor variant meaning link s.cells handed.nonces going y
-
-  -- the history goes on here, with what the register shows
-  pub record ShowsHistory : Type 0 where
-    pub entries : List RegisterEntry
-    pub register : (key : List ℕ) → RegisterStands variant (instance_at variant meaning link key) new (record y { items = entries })
-    pub within : y.is_open ≡ false → IsWithin all others asked (instance_at variant meaning link link.key) (record y { items = entries })
 
   -- the ticket was handed out, so it is good
   pub good : (content : TicketContent) → right_ticket meaning variant link.key ticket ≡ Ok content
@@ -161,7 +171,7 @@ module _ {variant : Variant} {meaning : Meaning} {link : Link} {all others : Lis
   -- what is answered is genuine
   genuine : (z : History) (key : List ℕ) (ready : ReadyMove Accepted) (a : Answers variant meaning link ticket key ready)
       → NamesPosition (instance_at variant meaning link link.key) z a.content.content → (accepted : Accepted)
-      → accepted ≡ ready.answer → IsKeyedGenuine variant meaning link z (record { key = key_of old; bytes = accepted.snapshot })
+      → accepted ≡ ready.answer → IsGenuineUnder variant meaning link z (record { key = key_of old; bytes = accepted.snapshot })
   genuine z key ready a names accepted is said right =
       let bytes : accepted.snapshot ≡ sealed_snapshot_of key a.content.content =
       ap (λ (x : Accepted). x.snapshot) (is ∙ a.answer_is) in
@@ -175,7 +185,7 @@ module _ {variant : Variant} {meaning : Meaning} {link : Link} {all others : Lis
       (ready : ReadyMove Accepted) (r : Enters variant meaning link ticket c ready) (result : Result Accepted MoveRefusal)
       (gives : (accepted : Accepted) → result ≡ Ok accepted → accepted ≡ ready.answer)
       (wrote : new.cell ≡ Some (cell_spelling (live_cell_from c r.answers.content.content)))
-      (shows : ShowsHistory) where
+      (shows : ShowsHistory variant meaning link all others asked y new) where
     abbrev content : TicketContent
     content = r.answers.content
 
@@ -219,9 +229,9 @@ module _ {variant : Variant} {meaning : Meaning} {link : Link} {all others : Lis
                   told = wrote ∙ ap (λ (x : Cell). Some (cell_spelling x)) cell;
                 }) o;
             within = shows.within shut;
-            named = each_append (IsKeyedGenuine variant meaning link z) handed.snapshots (accepted_snapshots (key_of old) result)
+            named = each_append (IsGenuineUnder variant meaning link z) handed.snapshots (accepted_snapshots (key_of old) result)
                 (all_named variant meaning link link.key y z crossed handed.snapshots s.named)
-                (given_snapshots variant meaning link all others asked (IsKeyedGenuine variant meaning link z) (key_of old) result
+                (given_snapshots variant meaning link all others asked (IsGenuineUnder variant meaning link z) (key_of old) result
                 (λ accepted is. genuine z c.key ready r.answers (crossed content.content names) accepted (gives accepted is)));
             papers = rw (append-nil handed.tickets)
                 (papers_on variant meaning link all (Left (Some going)) After y z
@@ -245,14 +255,14 @@ module _ {variant : Variant} {meaning : Meaning} {link : Link} {all others : Lis
 
   module _ (beside : IsBeside old new)
       (shown : IsQuietHere laws world y handed s at new)
-      (shows : ShowsHistory) where
+      (shows : ShowsHistory variant meaning link all others asked y new) where
     still : (result : Result Accepted MoveRefusal) → new.cell ≡ old.cell
         → ((accepted : Accepted) → result ≡ Ok accepted
-        → IsKeyedGenuine variant meaning link y (record { key = key_of old; bytes = accepted.snapshot })) → Kept result
+        → IsGenuineUnder variant meaning link y (record { key = key_of old; bytes = accepted.snapshot })) → Kept result
     still result same named =
         kept_quiet laws world y handed s at new (accepted_snapshots (key_of old) result) [] []
         same beside shown
-        (given_snapshots variant meaning link all others asked (IsKeyedGenuine variant meaning link y) (key_of old) result named) tt
+        (given_snapshots variant meaning link all others asked (IsGenuineUnder variant meaning link y) (key_of old) result named) tt
 
     comes : (held : Option MovedCell) → s.cells at ≡ held → HoldsCell variant meaning link old held
         → (result : Result Accepted MoveRefusal)
@@ -282,7 +292,7 @@ module _ {variant : Variant} {meaning : Meaning} {link : Link} {all others : Lis
         genuine y c.key ready r.answers names accepted (answer_of result ready.answer accepted gives is))
 
   pub kept_accepting : (result : Result Accepted MoveRefusal)
-      → IsQuietHere laws world y handed s at new → ShowsHistory
+      → IsQuietHere laws world y handed s at new → ShowsHistory variant meaning link all others asked y new
       → MovePromise (λ bytes. acceptance_in meaning variant link ticket (moved_cell_of bytes)) old new result → Kept result
   kept_accepting result shown shows m =
       comes (move_beside (λ bytes. acceptance_in meaning variant link ticket (moved_cell_of bytes)) old new result m.moves) shown shows

@@ -16,11 +16,11 @@ use Rattle.mm_seal.specs.declared.cell.CellFault.TheVariants as fault
 use Rattle.mm_platform.specs.Standing.{Standing}
 use Rattle.mm_module.specs.Batch.{One}
 use Rattle.mm_module.specs.Meaning.{Meaning, IsLawful}
-use Rattle.mm_model.specs.Chains.{Instance, basic_instance}
+use Rattle.mm_model.specs.Chains.{basic_instance}
 use Rattle.mm_model.specs.History.{History, cell_digest_of, first_history}
 use Rattle.mm_model.specs.Messages.{AreMessagesIn, place_messages}
 use Rattle.mm_model.specs.Moves.{is_long}
-use Rattle.mm_model.specs.Standing.{NamesPosition, IsGenuine, RegisterStands, cell_of, StandsFor}
+use Rattle.mm_model.specs.Standing.{NamesPosition, RegisterStands, cell_of, StandsFor}
 use Rattle.mm_model.specs.declared.answer.Answer.{Answer}
 use Rattle.mm_model.specs.declared.refusal.Refusal.{Refusal}
 use Rattle.mm_call.specs.CallFinding.{batch_result_of}
@@ -41,7 +41,7 @@ use Rattle.mm_worlds.specs.declared.journey.Pass.{Pass}
 use Rattle.mm_worlds.specs.Journey.{BothEnds, Errand, GoesOn, GoesRound, ThreeSites, TravelsRound, Waystations, accepted_snapshot}
 use Rattle.mm_worlds.specs.Journey.{call_part, journey_stages, pass_of, three_platforms, ticket_given}
 use Rattle.mm_worlds.specs.OneWorld.{WorldIsOneOrEvidence}
-use Rattle.mm_worlds.specs.Premises.{key_of, role_in, role_of, KeyedSnapshot, IsWorldAtStart, IsWorldLife, Lives, WorldPartLeads}
+use Rattle.mm_worlds.specs.Premises.{key_of, role_in, role_of, IsWorldAtStart, IsWorldLife, Lives, WorldPartLeads, instance_at}
 
 -- What a cell of a world holds: nothing, or the module's cell of one of three forms.
 
@@ -146,7 +146,7 @@ changed_at things at x other = if other == at then x else things other
 pub same_number : (a b : ℕ) → (a == b) ≡ true → a ≡ b
 same_number a b e = grind (arith, nat_tests)
 
-other_number : (a b : ℕ) → (a == b) ≡ false → a ≡ b → ⊥
+pub other_number : (a b : ℕ) → (a == b) ≡ false → a ≡ b → ⊥
 other_number a b e same = grind (arith, nat_tests)
 
 own_number : (a : ℕ) → (a == a) ≡ true
@@ -220,16 +220,9 @@ left_on P Q on (Some (moved.Waiting c)) h = tt
 left_on P Q on None h = tt
 
 module _ (variant : Variant) (meaning : Meaning) (link : Link) where
-  abbrev pub instance_at : List ℕ → Instance
-  instance_at key = record { variant = variant; meaning = meaning; key = key; barrier = barrier_of variant link }
-
   -- the summary or anchor, in which there is no key
   abbrev pub anchor_at : History → List ℕ
-  anchor_at y = cell_digest_of (instance_at link.key) variant y
-
-  -- a snapshot that was handed out is genuine, under its key
-  abbrev pub IsKeyedGenuine : History → KeyedSnapshot → Type 0
-  IsKeyedGenuine y s = IsGenuine (instance_at s.key) y s.bytes
+  anchor_at y = cell_digest_of (instance_at variant meaning link link.key) variant y
 
   -- How a module left, for a nonce and at a summary or anchor: it has arrived since; or it is on its way by this very nonce.
   abbrev pub LeftFor : Cells → List (List ℕ) → Option (List ℕ) → History → List ℕ → List ℕ → Type 0
@@ -241,7 +234,7 @@ module _ (variant : Variant) (meaning : Meaning) (link : Link) where
   -- summary or anchor; and how the module left.
   pub record IsGoodTicket (all : List (List ℕ)) (Left : List ℕ → List ℕ → Type 0) (y : History) (content : TicketContent) : Type 0 where
     pub offered : Content
-    pub names : NamesPosition (instance_at link.key) y offered
+    pub names : NamesPosition (instance_at variant meaning link link.key) y offered
     pub listed : AreMessagesIn (place_messages offered.place) all
     pub position : content.content.position ≡ offered.position
     pub state : content.content.state ≡ offered.state
@@ -256,8 +249,8 @@ module _ (variant : Variant) (meaning : Meaning) (link : Link) where
   pub record LivesAt (world : ℕ → Standing) (cells : Cells) (y : History) : Type 0 where
     pub at : ℕ
     pub key : List ℕ
-    pub here : cells at ≡ Some (moved.Live (cell_of (instance_at key) y))
-    pub register : RegisterStands variant (instance_at key) (world at) y
+    pub here : cells at ≡ Some (moved.Live (cell_of (instance_at variant meaning link key) y))
+    pub register : RegisterStands variant (instance_at variant meaning link key) (world at) y
     pub only : (other : ℕ) → IsLiveCell (cells other) → other ≡ at
 
   -- on its way it left no segment open
@@ -280,7 +273,8 @@ module _ (variant : Variant) (meaning : Meaning) (link : Link) where
 
   pub papers_on : (all : List (List ℕ)) (P Q : List ℕ → List ℕ → Type 0) (y z : History)
       → ((nonce anchor : List ℕ) → P nonce anchor → Q nonce anchor)
-      → ((content : Content) → NamesPosition (instance_at link.key) y content → NamesPosition (instance_at link.key) z content)
+      → ((content : Content) → NamesPosition (instance_at variant meaning link link.key) y content
+      → NamesPosition (instance_at variant meaning link link.key) z content)
       → (tickets : List (List ℕ)) → AllByRecursion (IsGoodPaper all P y) tickets → AllByRecursion (IsGoodPaper all Q z) tickets
   papers_on all P Q y z on names [] g = tt
   papers_on all P Q y z on names (ticket ∷ tickets) g = (

@@ -187,7 +187,7 @@ no_premise meaning link world stages f clear honest (inr broken) =
 pub opt_one_or_evidence : OptWorldIsOne → OptWorldIsOneOrEvidence
 opt_one_or_evidence one meaning lawful link world stages f start told =
     elim (clash_or (instance_of Opt meaning link (world 0)) (opt_world_messages meaning link world stages f)
-    (world_values meaning link world stages f) (world_batches meaning link world stages f)) [
+    (world_values meaning link world stages f) (world_batches Opt meaning link world stages f)) [
       | inl clash ↦ inr (inl clash)
       | inr clear ↦ elim (all_or Opt meaning link stages (first_handed Opt meaning link world) world f) [
         | inl broken ↦ inr (inr broken)
@@ -198,7 +198,7 @@ opt_one_or_evidence one meaning lawful link world stages f start told =
 pub opt_no_premise : OptEvidenceIsNoPremise
 opt_no_premise meaning link world stages f clear guarded honest (inl clash) =
     clash_apart (instance_of Opt meaning link (world 0)) (opt_world_messages meaning link world stages f)
-    (world_values meaning link world stages f) (world_batches meaning link world stages f) clear (λ opt. guarded) clash
+    (world_values meaning link world stages f) (world_batches Opt meaning link world stages f) clear (λ opt. guarded) clash
 opt_no_premise meaning link world stages f clear guarded honest (inr broken) =
     all_apart Opt meaning link stages (first_handed Opt meaning link world) world f honest broken
 

@@ -27,8 +27,9 @@ use Rattle.mm_move.specs.declared.link.Link.{Link}
 use Rattle.mm_move.proofs.Above.{bytes_tell}
 use Rattle.mm_sides.specs.BothSides.{Live, Role}
 use Rattle.mm_worlds.specs.Premises.{Handed, KeyedSnapshot, keyed_snapshots, snapshots_under, key_of, role_of, calls_at, first_offers}
-use Rattle.mm_worlds.proofs.Between.{IsLiveCell, bytes_held, IsGoodPaper, IsInOrder, IsKeyedGenuine, LeftFor, by_test, changed_at}
-use Rattle.mm_worlds.proofs.Between.{instance_at, papers_on, HoldsCell, HoldsOwn, held_told, key_held, no_cell, role_held}
+use Rattle.mm_worlds.specs.Premises.{instance_at, IsGenuineUnder}
+use Rattle.mm_worlds.proofs.Between.{IsLiveCell, bytes_held, IsGoodPaper, IsInOrder, LeftFor, by_test, changed_at}
+use Rattle.mm_worlds.proofs.Between.{papers_on, HoldsCell, HoldsOwn, held_told, key_held, no_cell, role_held}
 use Rattle.mm_worlds.proofs.RefusedParts.{genuine_first, none_issued, part_refused}
 use Rattle.mm_worlds.proofs.Beside.{IsBeside}
 use Rattle.mm_worlds.proofs.Orders.{StandsInOrder, handed_more, kept_still, goes_on_left, order_lived}
@@ -38,7 +39,7 @@ use Rattle.mm_worlds.proofs.Names.{names_key, within_key}
 
 module _ (variant : Variant) (meaning : Meaning) (link : Link) (y : History) where
   abbrev IsGenuineHere : KeyedSnapshot → Type 0
-  IsGenuineHere = IsKeyedGenuine variant meaning link y
+  IsGenuineHere = IsGenuineUnder variant meaning link y
 
   pub under_genuine : (key : List ℕ) (snapshots : List KeyedSnapshot) → AllByRecursion IsGenuineHere snapshots
       → AllByRecursion (IsGenuine (instance_at variant meaning link key) y) (snapshots_under key snapshots)
@@ -60,8 +61,8 @@ module _ (variant : Variant) (meaning : Meaning) (link : Link) (y : History) whe
 pub all_named : (variant : Variant) (meaning : Meaning) (link : Link) (key : List ℕ) (y z : History)
     → ((content : Content) → NamesPosition (instance_at variant meaning link key) y content
     → NamesPosition (instance_at variant meaning link key) z content)
-    → (snapshots : List KeyedSnapshot) → AllByRecursion (IsKeyedGenuine variant meaning link y) snapshots
-    → AllByRecursion (IsKeyedGenuine variant meaning link z) snapshots
+    → (snapshots : List KeyedSnapshot) → AllByRecursion (IsGenuineUnder variant meaning link y) snapshots
+    → AllByRecursion (IsGenuineUnder variant meaning link z) snapshots
 all_named variant meaning link key y z names [] g = tt
 all_named variant meaning link key y z names (s ∷ snapshots) g = (
   λ content right. names_key variant meaning link key s.key z content
@@ -144,7 +145,7 @@ module _ {variant : Variant} {meaning : Meaning} {link : Link} {all others : Lis
   kept_lived : (c : Cell) → IsHere c → (z : History) → StandsFor here new z → IsWithin all others asked here z
       → ((content : Content) → NamesPosition here y content → NamesPosition here z content)
       → (snapshots : List KeyedSnapshot) (tickets nonces : List (List ℕ))
-      → AllByRecursion (IsKeyedGenuine variant meaning link z) snapshots → Good tickets
+      → AllByRecursion (IsGenuineUnder variant meaning link z) snapshots → Good tickets
       → StandsInOrder variant meaning link all others asked (changed_at world at new) z
       (handed_more variant meaning link all others asked handed snapshots tickets nonces)
   kept_lived c i z stands within names snapshots tickets nonces named good =
@@ -157,7 +158,7 @@ module _ {variant : Variant} {meaning : Meaning} {link : Link} {all others : Lis
         order = order_lived variant meaning link world s.cells y handed.nonces at new (key_of old) z stands.register nonces i.live
             (record { formed = stands.spells; own = (refl, refl, refl); told = stands.cell }) i.order;
         within = within_key variant meaning link (key_of old) link.key all others asked z within;
-        named = each_append (IsKeyedGenuine variant meaning link z) handed.snapshots snapshots
+        named = each_append (IsGenuineUnder variant meaning link z) handed.snapshots snapshots
             (all_named variant meaning link (key_of old) y z names handed.snapshots s.named) named;
         papers = papers_on variant meaning link all (LeftFor variant meaning link s.cells handed.nonces None y) After y z
             (goes_on_left variant meaning link world s.cells y handed.nonces at new (key_of old) z stands.register nonces)
@@ -178,7 +179,7 @@ module _ {variant : Variant} {meaning : Meaning} {link : Link} {all others : Lis
 
   -- A move leaves the cell.
   module _ (snapshots : List KeyedSnapshot) (tickets nonces : List (List ℕ)) (same : new.cell ≡ old.cell) (beside : IsBeside old new)
-      (shown : IsQuietHere) (named : AllByRecursion (IsKeyedGenuine variant meaning link y) snapshots)
+      (shown : IsQuietHere) (named : AllByRecursion (IsGenuineUnder variant meaning link y) snapshots)
       (good : Good tickets) where
     abbrev Quiet : Type 0
     Quiet = Stepped snapshots tickets nonces (λ after. after ≡ requests_of y.batches)
@@ -237,11 +238,11 @@ module _ {variant : Variant} {meaning : Meaning} {link : Link} {all others : Lis
     finds_none held h away (Does LosesPower) = lives_elsewhere held h away variant meaning.id
     finds_none held h away (Does (Checkpoints said)) = λ id. lives_elsewhere held h away Opt id
 
-    -- where the module isn't, the history, the list and the cell are left
+    -- where the module isn't, the history, each list and the cell are left
     pub record IsLeftElsewhere : Type 0 where
       pub stands : StandsInOrder variant meaning link all others asked (changed_at world at new) y
           (handed_more variant meaning link all others asked handed (keyed_snapshots (key_of old) (snapshots_of calls)) [] [])
-      pub steps : PartSteps variant meaning old part new f (requests_of y.batches) (requests_of y.batches)
+      pub steps : (requests : List (List ℕ)) → PartSteps variant meaning old part new f requests requests
       pub cell : new.cell ≡ old.cell
 
     pub left_elsewhere : (held : Option MovedCell) → s.cells at ≡ held → HoldsCell variant meaning link old held
@@ -253,7 +254,7 @@ module _ {variant : Variant} {meaning : Meaning} {link : Link} {all others : Lis
               (subst (λ (x : Option MovedCell). IsLiveCell x → ⊥) (sym e) away) x.cell
               (keyed_snapshots (key_of old) (snapshots_of calls)) [] []
               (rw (none_issued calls x.refused) tt) tt;
-          steps = part_refused variant meaning (requests_of y.batches) old part new f x.refused;
+          steps = λ requests. part_refused variant meaning requests old part new f x.refused;
           cell = x.cell;
         }
 
@@ -261,7 +262,7 @@ module _ {variant : Variant} {meaning : Meaning} {link : Link} {all others : Lis
         → PartLived
     elsewhere held e h away =
         let x = left_elsewhere held e h away in
-        record { after = y; stands = x.stands; steps = x.steps }
+        record { after = y; stands = x.stands; steps = x.steps (requests_of y.batches) }
 
     lives_on : (c : Cell) → IsHere c → IsFirstGenuine here y calls → AreListed all asked here calls
         → IsSeen old part new ⊎ IsStill old calls → PartLived

@@ -11,6 +11,7 @@ use Rattle.std.proofs.lemmas.Slice.Eq.{bytes_eq-Decides}
 use Rattle.mm_digest.specs.Messages.{start_message}
 use Rattle.mm_digest.specs.declared.variant.Variant.{Variant}
 use Rattle.mm_digest.specs.declared.variant.Variant.TheVariants.{Basic}
+use Rattle.mm_seal.specs.declared.cell.Cell.{Cell}
 use Rattle.mm_seal.specs.declared.cell.CellFault.{CellFault}
 use Rattle.mm_platform.specs.Standing.{Standing, ReadCell, StepGoes, WriteCell, cell_after}
 use Rattle.mm_platform.specs.declared.fault.StepFault.{StepFault}
@@ -266,6 +267,14 @@ invited_where next (Some (moved.Retired c)) ready bytes e n = record { is = cc; 
 invited_where next (Some (moved.Waiting c)) ready bytes e n =
     absurd (writes_none (not (is_same_waiting c next)) _ ready _ bytes e n)
 invited_where next (Some (moved.Live c)) ready bytes e n = absurd (cc)
+
+-- where the module lives, the cell is as before
+pub invited_same : (next : WaitingCell) (c : Cell) (old new : Standing) (result : Result Invited MoveRefusal)
+    → MoveOutcome (invitation_in next (Ok (moved.Live c))) old new result → new.cell ≡ old.cell
+invited_same next c old new result (refused same none) = same
+invited_same next c old new result (repeated ready f n same gives) = same
+invited_same next c old new result (made ready bytes f n wrote gives) =
+    absurd ((invited_where next (Some (moved.Live c)) ready bytes f n).away tt)
 
 module _ {variant : Variant} {meaning : Meaning} {link : Link} {all others : List (List ℕ)} {asked : List Batch}
     {IsSeen : Standing → LifePart → Standing → Type 0} {IsStill : Standing → List LifeCall → Type 0}

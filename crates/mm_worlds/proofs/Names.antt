@@ -4,7 +4,7 @@ use Rattle.std.specs.Option.{option_map}
 use Rattle.std.specs.Prelude.{◌&&◌, ◌+◌, if◌then◌else◌, nat_eq}
 use Rattle.std.proofs.Common.{◌≡◌, ◌∙◌, ℕ, Bool, true, false, List, [], ◌∷◌, Option, Some, map, refl, sym, ap, subst}
 use Rattle.std.proofs.lemmas.List.Elements.{All-contains, All-from_recursion}
-use Rattle.mm_digest.specs.Messages.{zero_bytes}
+use Rattle.mm_digest.specs.Messages.{start_digest_of, zero_bytes}
 use Rattle.mm_digest.specs.declared.digest.Digest.{Digest}
 use Rattle.mm_digest.specs.declared.variant.Variant.{Variant}
 use Rattle.mm_digest.specs.declared.variant.Variant.TheVariants.{Basic, Opt}
@@ -16,8 +16,8 @@ use Rattle.mm_platform.specs.Standing.{Item, Standing, item_values, register_aft
 use Rattle.mm_module.specs.Batch.{Batch, One, size_of}
 use Rattle.mm_module.specs.Meaning.{Meaning, state_after}
 use Rattle.mm_model.specs.BatchLaws.{at_the_end}
-use Rattle.mm_model.specs.Chains.{register_of, summary_of, Instance, basic_instance, opt_instance}
-use Rattle.mm_model.specs.ListLaws.{register_folds}
+use Rattle.mm_model.specs.Chains.{link_message, register_of, summary_of, trail, Instance, basic_instance, opt_instance}
+use Rattle.mm_model.specs.ListLaws.{register_folds, same_summaries, trail_front}
 use Rattle.mm_model.specs.History.{History, RegisterEntry, Value, extension_value, items_of_all, register_value_of, requests_of, total_of}
 use Rattle.mm_model.specs.History.{cell_digest_of}
 use Rattle.mm_model.specs.Standing.{Life, Live, has_value, life_of, IsPlaceOf, NamesPosition, issued_place, digest_of, flag_of}
@@ -32,7 +32,8 @@ use Rattle.mm_move.specs.Orders.{barrier_of, is_place_at}
 use Rattle.mm_move.specs.Tickets.{place_at}
 use Rattle.mm_move.specs.declared.link.Link.{Link}
 use Rattle.mm_move.proofs.Above.{bytes_tell}
-use Rattle.mm_worlds.proofs.Between.{anchor_at, instance_at}
+use Rattle.mm_worlds.proofs.Between.{anchor_at}
+use Rattle.mm_worlds.specs.Premises.{instance_at}
 
 place_cross : (meaning : Meaning) (key other barrier : List ℕ) (y : History) (items : List RegisterEntry) (named : List Batch)
     (place : Place) → IsPlaceOf Opt (opt_instance meaning key barrier) y named place
@@ -65,11 +66,16 @@ register_on i y standing items told =
     ∙ ap (λ (r : List ℕ). Some r) (register_folds (item_values items)
     ∙ ap (λ (vs : List (List ℕ)). register_of vs) (sym (values_back i.barrier (item_values items))))
 
+-- in Opt no closed segment holds a value that stands for no batch
+abbrev pub IsUnmarred : Variant → History → Type 0
+IsUnmarred Basic y = Unit {0}
+IsUnmarred Opt y = has_value (items_of_all y.closed) ≡ false
+
 -- what names the end of a history
 pub record IsAtEnd (i : Instance) (y : History) (content : Content) : Type 0 where
   pub position : content.position ≡ total_of y.batches
   pub state : content.state ≡ state_after i.meaning (requests_of y.batches)
-  pub clean : has_value (items_of_all y.closed) ≡ false
+  pub unmarred : IsUnmarred i.variant y
 
 record IsNewAt (life : Life) (at : Bool) : Type 0 where
   life_is : life ≡ Live
@@ -121,9 +127,9 @@ module _ (meaning : Meaning) (key barrier : List ℕ) where
 
   module _ (all others : List (List ℕ)) (asked : List Batch) (clear : IsClear all) (apart : AreNoGuards barrier others asked)
       (y : History) (shut : y.is_open ≡ false) (within : IsWithin all others asked I y) where
-    pub at_end : (offered : Content) (summary : Digest) → NamesPosition I y offered → AreMessagesIn (place_messages offered.place) all
+    pub opt_at_end : (offered : Content) (summary : Digest) → NamesPosition I y offered → AreMessagesIn (place_messages offered.place) all
         → summary.bytes ≡ cell_digest_of I Opt y → is_place_at summary offered.place ≡ true → IsAtEnd I y offered
-    at_end offered summary n listed is at =
+    opt_at_end offered summary n listed is at =
         let z : History = record y { items = [] } in
         let v = within_items meaning key barrier all others asked y [] shut within in
         let same = opt_stands_here meaning key barrier z offered (One []) all v.sound clear (bare_listed all y y.is_open v.listed) listed
@@ -142,7 +148,7 @@ module _ (meaning : Meaning) (key barrier : List ℕ) where
         record {
           position = n.position ∙ ap total_of whole;
           state = n.state ∙ ap (λ (bs : List Batch). state_after meaning (requests_of bs)) whole;
-          clean = (lives z t.life_is).clean;
+          unmarred = (lives z t.life_is).clean;
         }
 
     -- what says so at the anchor names the end too
@@ -151,8 +157,8 @@ module _ (meaning : Meaning) (key barrier : List ℕ) where
         → is_place_at summary offered.place ≡ true → said.position ≡ offered.position → said.state ≡ offered.state
         → said.place ≡ InOpt summary (record { bytes = zero_bytes }) → NamesPosition I y said
     end_named offered said summary n listed is at position state place =
-        let e = at_end offered summary n listed is at in
-        let m = opt_issued meaning key barrier y within.sound e.clean in
+        let e = opt_at_end offered summary n listed is at in
+        let m = opt_issued meaning key barrier y within.sound e.unmarred in
         let here : issued_place Opt y.is_open I y ≡ said.place =
         ap (λ (f : Bool). issued_place Opt f I y) shut
         ∙ ap (λ (d : List ℕ). InOpt (digest_of d) (digest_of zero_bytes)) (sym is) ∙ sym place in
@@ -245,3 +251,24 @@ names_end Basic meaning link all others asked clear apart y shut within offered 
 names_end Opt meaning link all others asked clear apart y shut within offered said summary n listed is at position state place =
     end_named meaning link.key link.barrier all others asked clear apart y shut within offered said summary n listed is at position state
     place
+
+-- and what an offer says there is the end
+pub at_end : (variant : Variant) (meaning : Meaning) (link : Link) (all others : List (List ℕ)) (asked : List Batch) → IsClear all
+    → AreNoGuards (barrier_of variant link) others asked → (y : History) → y.is_open ≡ false
+    → IsWithin all others asked (instance_at variant meaning link link.key) y → (offered : Content) (summary : Digest)
+    → NamesPosition (instance_at variant meaning link link.key) y offered → AreMessagesIn (place_messages offered.place) all
+    → summary.bytes ≡ anchor_at variant meaning link y → is_place_at summary offered.place ≡ true
+    → IsAtEnd (instance_at variant meaning link link.key) y offered
+at_end Basic meaning link all others asked clear apart y shut within offered summary n listed is at =
+    let front = trail_front link_message (start_digest_of Basic meaning.id) n.named n.rest all
+    (subst (λ (bs : List Batch). AreMessagesIn (trail link_message (start_digest_of Basic meaning.id) bs) all) n.first within.listed.1) in
+    let whole : n.named ≡ y.batches =
+    same_summaries meaning.id all clear within.listed.0 n.named y.batches front within.listed.1
+    (sym (at_place meaning link.key y n.named summary offered.place n.place at) ∙ is) in
+    record {
+      position = n.position ∙ ap total_of whole;
+      state = n.state ∙ ap (λ (bs : List Batch). state_after meaning (requests_of bs)) whole;
+      unmarred = tt;
+    }
+at_end Opt meaning link all others asked clear apart y shut within offered summary n listed is at =
+    opt_at_end meaning link.key link.barrier all others asked clear apart y shut within offered summary n listed is at

@@ -1,25 +1,19 @@
 -- Opt: a world is one.
-use Rattle.mm_model.specs.History.{requests_of, History, Value}
-use Rattle.mm_worlds.specs.OneWorld.{WorldFollows, OptWorldIsOne, AreRegistersTold, IsOptWorldAtStart, TellsRegister, bytes_if_live}
-use Rattle.mm_worlds.specs.OneWorld.{opt_messages_from, opt_messages_in, opt_world_messages, others_values_in, register_messages_in}
-use Rattle.mm_worlds.specs.OneWorld.{retirement_messages, world_batches, world_values}
-use Rattle.mm_worlds.specs.Premises.{AreHonest, handed_after, Handed, instance_of, key_of, role_of, IsHonest, asked_messages, calls_at}
-use Rattle.mm_worlds.specs.Premises.{calls_in, first_handed, handed_at_end, offers_to, Accepts, Invites, IsWorldLife, Lives, Retires, World}
-use Rattle.mm_worlds.specs.Premises.{WorldPart, WorldPartLeads, WorldStage, world_after, world_at_end}
 use Rattle.std.specs.List.{AllByRecursion, Contains, flat_map}
+use Rattle.std.specs.Option.{option_map_or}
+use Rattle.std.specs.Prelude.{IsSome}
 use Rattle.std.proofs.Common.{◌≡◌, ◌++◌, ℕ, List, [], ◌∷◌, Option, None, Some, ◌⊎◌, map, true, refl, subst}
 use Rattle.mm_digest.specs.Messages.{start_message}
 use Rattle.mm_digest.specs.declared.variant.Variant.TheVariants.{Opt}
+use Rattle.mm_seal.specs.Snapshot.{Content}
 use Rattle.mm_platform.specs.Standing.{Item, Standing, item_values}
 use Rattle.mm_module.specs.Batch.{Batch}
 use Rattle.mm_module.specs.Meaning.{IsLawful, Meaning}
 use Rattle.mm_model.specs.Chains.{Instance}
+use Rattle.mm_model.specs.History.{History, Value}
 use Rattle.mm_model.specs.ListLaws.{each_left, each_right, each_self}
 use Rattle.mm_model.specs.Messages.{AreMessagesIn, AreNoGuards, IsClear, place_messages}
 use Rattle.mm_model.specs.Standing.{IsRight}
-use Rattle.std.specs.Option.{option_map_or}
-use Rattle.std.specs.Prelude.{IsSome}
-use Rattle.mm_seal.specs.Snapshot.{Content}
 use Rattle.mm_call.specs.CallPremises.{foreign_items}
 use Rattle.mm_call.proofs.Above.{within_items}
 use Rattle.mm_outcome.proofs.Above.{said_of}
@@ -28,19 +22,21 @@ use Rattle.mm_life.specs.Premises.{IsSeen, is_idle, PartsAreRefusedElsewhere, by
 use Rattle.mm_life.specs.Premises.{shown_messages}
 use Rattle.mm_life.specs.Stages.{Does, LifePart, part_calls}
 use Rattle.mm_life.proofs.Above.{opt_first_genuine, opt_first_within, opt_life, seen_unless}
-use Rattle.mm_move.specs.declared.cell.MovedCell.TheVariants as moved
 use Rattle.mm_move.specs.declared.link.Link.{Link}
 use Rattle.mm_recovery.specs.FirstStart.{first_history_on}
 use Rattle.mm_sides.specs.Premises.{messages_of_closing, offer_closing_messages}
 use Rattle.mm_sides.specs.BothSides.{Live, Role}
-use Rattle.mm_worlds.proofs.Accepting.{kept_accepting}
-use Rattle.mm_worlds.proofs.Between.{instance_at}
-use Rattle.mm_worlds.proofs.Moving.{kept_inviting}
-use Rattle.mm_worlds.proofs.AnyWorld.{StageGoes, first_cells, first_order, offer_genuine, offer_minded, somewhere}
+use Rattle.mm_worlds.specs.OneWorld.{OptWorldIsOne, AreRegistersTold, IsOptWorldAtStart, TellsRegister, bytes_if_live}
+use Rattle.mm_worlds.specs.OneWorld.{opt_messages_from, opt_messages_in, opt_world_messages, others_values_in, register_messages_in}
+use Rattle.mm_worlds.specs.OneWorld.{retirement_messages, world_batches, world_values}
+use Rattle.mm_worlds.specs.Premises.{Handed, instance_at, instance_of, key_of, role_of, asked_messages, calls_at, calls_in, first_handed}
+use Rattle.mm_worlds.specs.Premises.{offers_to, Accepts, Invites, IsWorldLife, Lives, Retires, World, WorldPart, WorldPartLeads}
+use Rattle.mm_worlds.specs.Premises.{WorldStage, world_after}
+use Rattle.mm_worlds.proofs.AnyWorld.{AreAsked, IsFineStage, StageLaws, first_cells, first_order, offer_minded, one_world}
 use Rattle.mm_worlds.proofs.Orders.{StandsInOrder}
-use Rattle.mm_worlds.proofs.Living.{WorldLaws, kept_living}
+use Rattle.mm_worlds.proofs.Living.{IsQuietHere, WorldLaws}
 use Rattle.mm_worlds.proofs.Names.{register_on}
-use Rattle.mm_worlds.proofs.Retiring.{IsOrWas, kept_retiring}
+use Rattle.mm_worlds.proofs.Retiring.{IsOrWas}
 
 told_items : (items : Option (List Item)) → IsSome items → (xs : List Item) × (items ≡ Some xs)
 told_items None told = absurd (cc)
@@ -60,11 +56,11 @@ module _ (meaning : Meaning) (lawful : IsLawful meaning) (link : Link) (all othe
   }
 
   -- what is asked of a part: its messages, the values of others, and its batches are listed
-  record IsListed (old : Standing) (part : WorldPart) (new : Standing) (f : WorldPartLeads Opt meaning link old part new) : Type 0 where
-    told : TellsRegister part new
-    messages : AreMessagesIn (opt_messages_in meaning link old part new f) all
-    values : AllByRecursion (Contains others) (others_values_in meaning link old part new f)
-    batches : AllByRecursion (Contains asked) (call_batches (calls_in Opt meaning link old part new f))
+  pub record IsListed (old : Standing) (part : WorldPart) (new : Standing) (f : WorldPartLeads Opt meaning link old part new) : Type 0 where
+    pub told : TellsRegister part new
+    pub messages : AreMessagesIn (opt_messages_in meaning link old part new f) all
+    pub values : AllByRecursion (Contains others) (others_values_in meaning link old part new f)
+    pub batches : AllByRecursion (Contains asked) (call_batches (calls_in Opt meaning link old part new f))
 
   module _ (world : World) (y : History) (handed : Handed) (s : Stands world y handed) (at : ℕ) where
     abbrev old : Standing
@@ -98,7 +94,14 @@ module _ (meaning : Meaning) (lawful : IsLawful meaning) (link : Link) (all othe
         (subst (λ (r : Role). AllByRecursion (Contains others) (bytes_if_live r (bytes_unless_idle old (calls r)
         (option_map_or foreign_items new.items [])))) role values)
 
-    -- one stage
+    quiet_where : (new : Standing)
+        → AreMessagesIn (bytes_if_live (role_of old) (bytes_unless_idle old [] (shown_messages new.items ++ []))) all
+        → AllByRecursion (Contains others) (bytes_if_live (role_of old) (bytes_unless_idle old []
+        (option_map_or foreign_items new.items [])))
+        → IsQuietHere laws world y handed s at new
+    quiet_where new messages values = λ extended. seen_where (Does (Extends extended)) new (λ role. []) messages values
+
+    -- what is asked of a part, by kind
     module _ (part : WorldPart) (new : Standing) (f : WorldPartLeads Opt meaning link old part new) (l : IsListed old part new f) where
       abbrev own : List (List ℕ)
       own = asked_messages here (calls_in Opt meaning link old part new f)
@@ -119,69 +122,59 @@ module _ (meaning : Meaning) (lawful : IsLawful meaning) (link : Link) (all othe
           each_right (Contains all) register (retirement_messages meaning link old part)
           (each_right (Contains all) own (register ++ retirement_messages meaning link old part) l.messages)
 
-    stepped : (part : WorldPart) (new : Standing) (f : WorldPartLeads Opt meaning link old part new)
-        → IsHonest Opt meaning link handed old part new f → IsListed old part new f
-        → StageGoes laws world y handed s at part new f
-    stepped (Lives part) new f honest l =
-        kept_living laws world y handed s at new part f honest.offers
-        (record { messages = calls_listed (Lives part) new f l; batches = l.batches })
-        (seen_where part new (λ role. calls_at role (part_calls Opt meaning old part new f)) (register_listed (Lives part) new f l)
-        l.values)
-    stepped (Invites nonce key result) new f honest l =
-        kept_inviting laws world y handed s at nonce key new result f.0 f.1 f.2 honest.nonces
-        (λ values. seen_where (Does (Extends values)) new (λ role. []) (register_listed (Invites nonce key result) new f l) l.values)
-    stepped (Retires nonce offer result) new f honest l =
-        kept_retiring laws world y handed s at nonce offer new f.0 result
-        (λ is. record {
-          genuine = offer_genuine laws world y handed s at offer is honest.offers;
-          listed = offer_listed offer is (retirement_listed (Retires nonce offer result) new f l);
-        })
-        (λ values. seen_where (Does (Extends values)) new (λ role. []) (register_listed (Retires nonce offer result) new f l) l.values)
-        f.1
-    stepped (Accepts ticket result) new f honest l =
-        let t = told_items new.items l.told in
-        kept_accepting laws world y handed s at ticket new honest.tickets.0 result
-        (λ values. seen_where (Does (Extends values)) new (λ role. []) (register_listed (Accepts ticket result) new f l) l.values) (record {
-          entries = map Value (item_values t.0);
-          register = λ key. register_on (instance_at Opt meaning link key) y new t.0 t.1;
-          within = λ shut. within_items meaning link.key link.barrier all others asked y (map Value (item_values t.0)) shut s.within;
-        }) f
+    fine : (part : WorldPart) (new : Standing) (f : WorldPartLeads Opt meaning link old part new) → IsListed old part new f
+        → IsFineStage laws world y handed s at part new f
+    fine (Lives part) new f l = (
+      record { messages = calls_listed (Lives part) new f l; batches = l.batches },
+      seen_where part new (λ role. calls_at role (part_calls Opt meaning old part new f)) (register_listed (Lives part) new f l)
+          l.values,
+    )
+    fine (Invites nonce key result) new f l = quiet_where new (register_listed (Invites nonce key result) new f l) l.values
+    fine (Retires nonce offer result) new f l = (
+      λ is. offer_listed offer is (retirement_listed (Retires nonce offer result) new f l),
+      quiet_where new (register_listed (Retires nonce offer result) new f l) l.values,
+    )
+    fine (Accepts ticket result) new f l =
+        let t = told_items new.items l.told in (
+          record {
+            entries = map Value (item_values t.0);
+            register = λ key. register_on (instance_at Opt meaning link key) y new t.0 t.1;
+            within = λ shut.
+                within_items meaning link.key link.barrier all others asked y (map Value (item_values t.0)) shut s.within;
+          },
+          quiet_where new (register_listed (Accepts ticket result) new f l) l.values,
+        )
 
-  -- all stages, one after another
-  record GoesTo (world : World) (y : History) (handed : Handed) (stages : List WorldStage)
-      (f : IsWorldLife Opt meaning link world stages) : Type 0 where
-    after : History
-    stands : Stands (world_at_end world stages) after (handed_at_end Opt meaning link handed world stages f)
-    follows : WorldFollows Opt meaning link world stages f (requests_of y.batches) (requests_of after.batches)
+  pub opt_stages : StageLaws Opt meaning link all others asked (IsSeen all others) (λ old calls. is_idle old calls ≡ true) IsListed
+  opt_stages = record { laws = laws; fine = fine }
 
-  goes : (stages : List WorldStage) (world : World) (y : History) (handed : Handed) (f : IsWorldLife Opt meaning link world stages)
-      → Stands world y handed → AreHonest Opt meaning link handed world stages f → AreRegistersTold stages
+  pub opt_listed : (stages : List WorldStage) (world : World) (f : IsWorldLife Opt meaning link world stages) → AreRegistersTold stages
       → AreMessagesIn (opt_messages_from meaning link world stages f) all
       → AllByRecursion (Contains others) (world_values meaning link world stages f)
-      → AllByRecursion (Contains asked) (world_batches meaning link world stages f) → GoesTo world y handed stages f
-  goes [] world y handed f s honest told messages values batches = record { after = y; stands = s; follows = refl }
-  goes (stage ∷ stages) world y handed f s honest told messages values batches =
+      → AllByRecursion (Contains asked) (world_batches Opt meaning link world stages f)
+      → AreAsked Opt meaning link IsListed world stages f
+  opt_listed [] world f told messages values batches = tt
+  opt_listed (stage ∷ stages) world f told messages values batches =
       let old : Standing = world stage.at in
       let later : World = world_after world stage in
       let mine : List (List ℕ) = opt_messages_in meaning link old stage.part stage.after f.0 in
       let brought : List (List ℕ) = others_values_in meaning link old stage.part stage.after f.0 in
-      let calls : List Batch = call_batches (calls_in Opt meaning link old stage.part stage.after f.0) in
-      let p = stepped world y handed s stage.at stage.part stage.after f.0 honest.0 (record {
-        told = told.0;
-        messages = each_left (Contains all) mine (opt_messages_from meaning link later stages f.1) messages;
-        values = each_left (Contains others) brought (world_values meaning link later stages f.1) values;
-        batches = each_left (Contains asked) calls (world_batches meaning link later stages f.1) batches;
-      }) in
-      let r = goes stages later p.after (handed_after Opt meaning link handed old stage.part stage.after f.0) f.1 p.stands honest.1 told.1
-      (each_right (Contains all) mine (opt_messages_from meaning link later stages f.1) messages)
-      (each_right (Contains others) brought (world_values meaning link later stages f.1) values)
-      (each_right (Contains asked) calls (world_batches meaning link later stages f.1) batches) in
-      record { after = r.after; stands = r.stands; follows = (requests_of p.after.batches, p.steps, r.follows) }
+      let calls : List Batch = call_batches (calls_in Opt meaning link old stage.part stage.after f.0) in (
+        record {
+          told = told.0;
+          messages = each_left (Contains all) mine (opt_messages_from meaning link later stages f.1) messages;
+          values = each_left (Contains others) brought (world_values meaning link later stages f.1) values;
+          batches = each_left (Contains asked) calls (world_batches Opt meaning link later stages f.1) batches;
+        },
+        opt_listed stages later f.1 told.1 (each_right (Contains all) mine (opt_messages_from meaning link later stages f.1) messages)
+            (each_right (Contains others) brought (world_values meaning link later stages f.1) values)
+            (each_right (Contains asked) calls (world_batches Opt meaning link later stages f.1) batches),
+      )
 
   -- the start
-  starts : (world : World) (start : IsOptWorldAtStart meaning link world) → Contains all (start_message Opt meaning.id)
+  pub opt_starts : (world : World) (start : IsOptWorldAtStart meaning link world) → Contains all (start_message Opt meaning.id)
       → Stands world (first_history_on start.values) (first_handed Opt meaning link world)
-  starts world start started =
+  opt_starts world start started =
       let key : List ℕ = key_of (world 0) in
       let y : History = first_history_on start.values in
       record {
@@ -199,18 +192,10 @@ pub opt_is_one : PartsAreRefusedElsewhere → OptWorldIsOne
 opt_is_one refuses meaning lawful link world stages f start told clear guarded honest =
     let all : List (List ℕ) = opt_world_messages meaning link world stages f in
     let others : List (List ℕ) = world_values meaning link world stages f in
-    let asked : List Batch = world_batches meaning link world stages f in
-    let handed : Handed = first_handed Opt meaning link world in
+    let asked : List Batch = world_batches Opt meaning link world stages f in
     let itself = each_self [] all in
-    let g = goes meaning lawful link all others asked clear guarded refuses stages world (first_history_on start.values) handed f
-    (starts meaning lawful link all others asked clear guarded refuses world start itself.0) honest told itself.1 (each_self [] others)
-    (each_self [] asked) in
-    record {
-      requests = _;
-      follows = g.follows;
-      history = g.after;
-      holds = refl;
-      somewhere = somewhere (laws meaning lawful link all others asked clear guarded refuses) (world_at_end world stages) g.after
-          (handed_at_end Opt meaning link handed world stages f) g.stands;
-      named = g.stands.named;
-    }
+    one_world (opt_stages meaning lawful link all others asked clear guarded refuses) stages world (first_history_on start.values)
+    (first_handed Opt meaning link world) f
+    (opt_starts meaning lawful link all others asked clear guarded refuses world start itself.0) honest
+    (opt_listed meaning lawful link all others asked clear guarded refuses stages world f told itself.1 (each_self [] others)
+    (each_self [] asked)) refl

@@ -21,10 +21,10 @@ use Rattle.mm_move.specs.declared.cell.RetiredCell.{RetiredCell}
 use Rattle.mm_move.specs.declared.cell.WaitingCell.{WaitingCell}
 use Rattle.mm_move.specs.declared.link.Link.{Link}
 use Rattle.mm_move.specs.declared.refusal.MoveRefusal.{MoveRefusal}
-use Rattle.mm_worlds.specs.Premises.{Handed, KeyedSnapshot, accepted_snapshots, given_tickets}
+use Rattle.mm_worlds.specs.Premises.{Handed, KeyedSnapshot, accepted_snapshots, given_tickets, instance_at, IsGenuineUnder}
 use Rattle.mm_worlds.proofs.Between.{IsAwaited, IsLiveCell, HoldsCell, HoldsOwn, holds_still, Cells, HasLeft, IsSpent, both_changed}
 use Rattle.mm_worlds.proofs.Between.{changed_at, each_changed, from_changed, here_changed, left_on, spent_on, there_changed, IsInOrder}
-use Rattle.mm_worlds.proofs.Between.{IsPlaced, LeftFor, LivesAt, anchor_at, instance_at, left_for_on, IsGoodPaper, IsKeyedGenuine}
+use Rattle.mm_worlds.proofs.Between.{IsPlaced, LeftFor, LivesAt, anchor_at, left_for_on, IsGoodPaper}
 use Rattle.mm_worlds.proofs.Between.{papers_on}
 
 module _ (variant : Variant) (meaning : Meaning) (link : Link) (world : ℕ → Standing) (cells : Cells) (y : History) (nonces : List (List ℕ))
@@ -276,7 +276,7 @@ module _ (variant : Variant) (meaning : Meaning) (link : Link) (all others : Lis
     pub going : Option (List ℕ)
     pub order : IsInOrder variant meaning link world cells going y handed.nonces
     pub within : IsWithin all others asked (instance_at variant meaning link link.key) y
-    pub named : AllByRecursion (IsKeyedGenuine variant meaning link y) handed.snapshots
+    pub named : AllByRecursion (IsGenuineUnder variant meaning link y) handed.snapshots
     pub papers : AllByRecursion (IsGoodPaper variant meaning link all (LeftFor variant meaning link cells handed.nonces going y) y)
         handed.tickets
 
@@ -290,7 +290,7 @@ module _ (variant : Variant) (meaning : Meaning) (link : Link) (all others : Lis
   -- no cell is changed, and the module isn't there
   pub kept_still : (world : ℕ → Standing) (y : History) (handed : Handed) (s : StandsInOrder world y handed) (at : ℕ) (new : Standing)
       → (IsLiveCell (s.cells at) → ⊥) → new.cell ≡ (world at).cell → (snapshots : List KeyedSnapshot) (tickets nonces : List (List ℕ))
-      → AllByRecursion (IsKeyedGenuine variant meaning link y) snapshots
+      → AllByRecursion (IsGenuineUnder variant meaning link y) snapshots
       → AllByRecursion (IsGoodPaper variant meaning link all (LeftFor variant meaning link s.cells handed.nonces s.going y) y) tickets
       → StandsInOrder (changed_at world at new) y (handed_more handed snapshots tickets nonces)
   kept_still world y handed s at new away same snapshots tickets nonces named papers = record {
@@ -299,7 +299,7 @@ module _ (variant : Variant) (meaning : Meaning) (link : Link) (all others : Lis
     going = s.going;
     order = order_still variant meaning link world s.cells y handed.nonces at new s.going nonces away same s.order;
     within = s.within;
-    named = each_append (IsKeyedGenuine variant meaning link y) handed.snapshots snapshots s.named named;
+    named = each_append (IsGenuineUnder variant meaning link y) handed.snapshots snapshots s.named named;
     papers = papers_on variant meaning link all (LeftFor variant meaning link s.cells handed.nonces s.going y)
         (LeftFor variant meaning link s.cells (handed.nonces ++ nonces) s.going y) y y
         (left_for_on variant meaning link s.cells s.cells handed.nonces nonces s.going y (λ q nonce k h. h)) (λ content n. n)

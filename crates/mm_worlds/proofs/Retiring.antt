@@ -3,7 +3,7 @@
 use Rattle.std.specs.Prelude.{not}
 use Rattle.std.specs.Str.{bytes_eq}
 use Rattle.std.proofs.Common.{◌≡◌, ◌∙◌, ℕ, Bool, true, false, List, length, Result, Ok, Err, refl, sym, ap, subst, ◌++◌, [], Option, None}
-use Rattle.std.proofs.Common.{Some, inr}
+use Rattle.std.proofs.Common.{Some, ◌⊎◌, inl, inr}
 use Rattle.std.proofs.lemmas.List.{append-nil}
 use Rattle.mm_digest.specs.LengthLaws.{length-hmac_of, length-zero_bytes}
 use Rattle.mm_digest.specs.declared.digest.Digest.{Digest}
@@ -38,13 +38,14 @@ use Rattle.mm_move.specs.declared.refusal.MoveRefusal.{MoveRefusal}
 use Rattle.mm_move.proofs.Above.{tickets_are_read, bytes_tell}
 use Rattle.mm_life.specs.Deeds.{LifeCall}
 use Rattle.mm_life.specs.Stages.{LifePart}
-use Rattle.mm_worlds.specs.Premises.{Handed, given_tickets, key_of}
+use Rattle.mm_sides.specs.BothSides.{Live, Retired}
+use Rattle.mm_worlds.specs.Premises.{Handed, given_tickets, key_of, role_of, instance_at}
 use Rattle.mm_worlds.proofs.Beside.{IsBeside, move_beside}
-use Rattle.mm_worlds.proofs.Between.{instance_at, HasLeft, changed_at, reading_of, IsGoodPaper, LeftFor, anchor_at, papers_on, HoldsCell}
-use Rattle.mm_worlds.proofs.Between.{HoldsOwn, key_held}
+use Rattle.mm_worlds.proofs.Between.{HasLeft, changed_at, reading_of, IsGoodPaper, LeftFor, anchor_at, papers_on, HoldsCell}
+use Rattle.mm_worlds.proofs.Between.{HoldsOwn, key_held, role_held}
 use Rattle.mm_worlds.proofs.Living.{IsQuietHere, Stepped, WorldLaws, is_here, kept_quiet}
 use Rattle.mm_worlds.proofs.Moving.{MoveOutcome, made, move_comes, refused, repeated}
-use Rattle.mm_worlds.proofs.Names.{digest_at, names_key, shut_by}
+use Rattle.mm_worlds.proofs.Names.{IsUnmarred, at_end, digest_at, names_key, shut_by}
 use Rattle.mm_worlds.proofs.Orders.{StandsInOrder, given_papers, left_goes, order_left}
 
 -- What a right offer says, what a right ticket says, and what a ticket says that a retirement gives.
@@ -261,46 +262,87 @@ module _ {variant : Variant} {meaning : Meaning} {link : Link} {all others : Lis
   abbrev Fine : Type 0
   Fine = IsFineOffer variant meaning link nonce offer all y (key_of old)
 
-  -- the cell that it writes
-  leaves : (c : Cell) → s.cells at ≡ Some (moved.Live c) → HoldsOwn variant meaning link old (moved.Live c) → Fine
-      → (ready : ReadyMove (List ℕ)) → c.flag ≡ false
-      → IsReady variant meaning link nonce offer c.key c.summary (Some (retired_spelling (retired_cell_from c nonce))) ready
-      → (result : Result (List ℕ) MoveRefusal) → ((ticket : List ℕ) → result ≡ Ok ticket → ticket ≡ ready.answer)
-      → new.cell ≡ Some (retired_spelling (retired_cell_from c nonce)) → Kept result
-  leaves c e h fine ready flag r result gives wrote =
-      let i = is_here laws world y handed s at new c e h in
-      let shut : y.is_open ≡ false = shut_by variant y s.within.sound (sym (ap (λ (x : Cell). x.flag) i.cell) ∙ flag) in
-      let summary : c.summary.bytes ≡ anchor_at variant meaning link y =
-      ap (λ (x : Cell). x.summary.bytes) i.cell ∙ digest_at variant meaning link (key_of old) y y.items in
-      let gone : RetiredCell = retired_cell_from c nonce in
-      let key : key_of old ≡ c.key = key_held variant meaning link old (moved.Live c) h in
-      let After : List ℕ → List ℕ → Type 0 =
-      LeftFor variant meaning link (changed_at s.cells at (Some (moved.Retired gone))) (handed.nonces ++ []) (Some nonce) y in
-      record {
-        after = y;
-        stands = record {
-          cells = changed_at s.cells at (Some (moved.Retired gone));
-          long = s.long;
-          going = Some nonce;
-          order = order_left variant meaning link world s.cells y handed.nonces at new gone summary [] shut i.live (record {
-            formed = record { summary = h.formed.summary; key = h.formed.key; nonce = long };
-            own = (h.own.0, h.own.1);
-            told = wrote;
-          }) i.order;
-          within = s.within;
-          named = rw (append-nil handed.snapshots) s.named;
-          papers = each_append (IsGoodPaper variant meaning link all After y) handed.tickets (given_tickets result)
-              (papers_on variant meaning link all (Left None) After y y
-              (left_goes variant meaning link world s.cells y handed.nonces at new gone summary [])
-              (λ content n. n) handed.tickets (i.papers handed.tickets s.papers))
-              (given_papers variant meaning link all others asked (IsGoodPaper variant meaning link all After y) result (λ ticket is.
-              paper_good variant meaning link nonce offer all After y long c.key c.summary h.formed.summary
-              (Some (retired_spelling gone)) ready r (subst (IsFineOffer variant meaning link nonce offer all y) key fine)
-              (inr (refl, summary))
-              ticket (gives ticket is)));
-        };
-        steps = refl;
-      }
+  -- it has left, at the end of its history
+  pub record HasGone : Type 0 where
+    pub shut : y.is_open ≡ false
+    pub unmarred : IsUnmarred variant y
+    pub away : role_of new ≡ Live → ⊥
+
+  -- where the module is without an open segment, its cell says the anchor of the history
+  module _ (c : Cell) (e : s.cells at ≡ Some (moved.Live c)) (h : HoldsOwn variant meaning link old (moved.Live c)) (fine : Fine)
+      (ready : ReadyMove (List ℕ)) (flag : c.flag ≡ false)
+      (r : IsReady variant meaning link nonce offer c.key c.summary (Some (retired_spelling (retired_cell_from c nonce))) ready)
+      (wrote : new.cell ≡ Some (retired_spelling (retired_cell_from c nonce))) where
+    abbrev gone : RetiredCell
+    gone = retired_cell_from c nonce
+
+    shut : y.is_open ≡ false
+    shut = shut_by variant y s.within.sound (sym (ap (λ (x : Cell). x.flag) (is_here laws world y handed s at new c e h).cell) ∙ flag)
+
+    summary : c.summary.bytes ≡ anchor_at variant meaning link y
+    summary =
+        ap (λ (x : Cell). x.summary.bytes) (is_here laws world y handed s at new c e h).cell
+        ∙ digest_at variant meaning link (key_of old) y y.items
+
+    key_fine : IsFineOffer variant meaning link nonce offer all y c.key
+    key_fine = subst (IsFineOffer variant meaning link nonce offer all y) (key_held variant meaning link old (moved.Live c) h) fine
+
+    gone_held : HoldsOwn variant meaning link new (moved.Retired gone)
+    gone_held = record {
+      formed = record { summary = h.formed.summary; key = h.formed.key; nonce = long };
+      own = (h.own.0, h.own.1);
+      told = wrote;
+    }
+
+    -- the cell that it writes
+    leaves : (result : Result (List ℕ) MoveRefusal) → ((ticket : List ℕ) → result ≡ Ok ticket → ticket ≡ ready.answer) → Kept result
+    leaves result gives =
+        let i = is_here laws world y handed s at new c e h in
+        let After : List ℕ → List ℕ → Type 0 =
+        LeftFor variant meaning link (changed_at s.cells at (Some (moved.Retired gone))) (handed.nonces ++ []) (Some nonce) y in
+        record {
+          after = y;
+          stands = record {
+            cells = changed_at s.cells at (Some (moved.Retired gone));
+            long = s.long;
+            going = Some nonce;
+            order = order_left variant meaning link world s.cells y handed.nonces at new gone summary [] shut i.live gone_held i.order;
+            within = s.within;
+            named = rw (append-nil handed.snapshots) s.named;
+            papers = each_append (IsGoodPaper variant meaning link all After y) handed.tickets (given_tickets result)
+                (papers_on variant meaning link all (Left None) After y y
+                (left_goes variant meaning link world s.cells y handed.nonces at new gone summary [])
+                (λ content n. n) handed.tickets (i.papers handed.tickets s.papers))
+                (given_papers variant meaning link all others asked (IsGoodPaper variant meaning link all After y) result (λ ticket is.
+                paper_good variant meaning link nonce offer all After y long c.key c.summary h.formed.summary
+                (Some (retired_spelling gone)) ready r key_fine (inr (refl, summary)) ticket (gives ticket is)));
+          };
+          steps = refl;
+        }
+
+    left_there : HasGone
+    left_there =
+        let formed = offer_is_right variant meaning link c.key offer r.content r.right in
+        record {
+          shut = shut;
+          unmarred = (at_end variant meaning link all others asked laws.clear laws.guarded y shut s.within r.content c.summary
+              (names_key variant meaning link c.key link.key y r.content (key_fine.genuine r.content formed))
+              (key_fine.listed r.content formed) summary r.at).unmarred;
+          away = λ role.
+              let clash : Retired gone.nonce ≡ Live = sym (role_held variant meaning link new (Some (moved.Retired gone)) gone_held) ∙ role
+              in absurd (cc);
+        }
+
+  -- where the module was, the cell is as before, or it has left
+  pub left_or : (c : Cell) → s.cells at ≡ Some (moved.Live c) → HoldsOwn variant meaning link old (moved.Live c) → Fine
+      → (result : Result (List ℕ) MoveRefusal)
+      → MoveOutcome (retirement_in meaning variant link nonce offer (Ok (moved.Live c))) old new result
+      → (new.cell ≡ old.cell) ⊎ HasGone
+  left_or c e h fine result (refused same none) = inl same
+  left_or c e h fine result (repeated ready f n same gives) = inl same
+  left_or c e h fine result (made ready bytes f n wrote gives) =
+      let r = leaves_ready variant meaning link nonce offer c ready f in
+      inr (left_there c e h fine ready r.0 r.1 (wrote ∙ sym n ∙ r.1.next_is))
 
   answer_of : (result : Result (List ℕ) MoveRefusal) (answer ticket : List ℕ) → result ≡ Ok answer → result ≡ Ok ticket → ticket ≡ answer
   answer_of result answer ticket e f = cc
@@ -327,7 +369,7 @@ module _ {variant : Variant} {meaning : Meaning} {link : Link} {all others : Lis
     comes (Some (moved.Live c)) e h fine result (made ready bytes f n wrote gives) =
         let r = leaves_ready variant meaning link nonce offer c ready f in
         let wrote_so : new.cell ≡ Some (retired_spelling (retired_cell_from c nonce)) = wrote ∙ sym n ∙ r.1.next_is in
-        leaves c e h (fine tt) ready r.0 r.1 result gives wrote_so
+        leaves c e h (fine tt) ready r.0 r.1 wrote_so result gives
     comes (Some (moved.Retired c)) e h fine result (made ready bytes f n wrote gives) =
         let r = again_ready variant meaning link nonce offer c ready f in
         let clash : None ≡ Some bytes = sym r.1.next_is ∙ n in absurd (cc)

@@ -11,7 +11,7 @@ pub use Rattle.mm_module.specs.Meaning.{IsLawful, Meaning}
 pub use Rattle.mm_modules.specs.Modules.{meaning_of}
 pub use Rattle.mm_modules.specs.declared.any.AnyModule.{AnyModule}
 pub use Rattle.mm_model.specs.History.{History, first_history, requests_of}
-pub use Rattle.mm_model.specs.Chains.{Instance, instance_by}
+pub use Rattle.mm_model.specs.Chains.{Instance}
 pub use Rattle.mm_model.specs.Messages.{AreNoGuards, IsClear}
 pub use Rattle.mm_model.specs.Standing.{IsGenuine, IsRight, StandsFor, issued_bytes}
 pub use Rattle.mm_call.specs.CallFinding.{right_content}
@@ -20,7 +20,7 @@ pub use Rattle.mm_schedule.specs.Replies.{ModulePromises}
 pub use Rattle.mm_schedule.specs.declared.reply.Reply.{Reply}
 pub use Rattle.mm_evidence.specs.Evidence.{HasClash}
 pub use Rattle.mm_move.specs.Cells.{moved_cell_of, part, MovePromise}
-pub use Rattle.mm_move.specs.Orders.{acceptance_in, invitation_in, retirement_in, right_ticket, waiting_for}
+pub use Rattle.mm_move.specs.Orders.{acceptance_in, barrier_of, invitation_in, retirement_in, right_ticket, waiting_for}
 pub use Rattle.mm_move.specs.Tickets.{TicketContent}
 pub use Rattle.mm_move.specs.declared.accepting.Accepted.{Accepted}
 pub use Rattle.mm_move.specs.declared.cell.MovedCell.{MovedCell}

@@ -144,7 +144,7 @@ opt_messages_from meaning link world (stage ∷ stages) f =
     opt_messages_in meaning link (world stage.at) stage.part stage.after f.0
     ++ opt_messages_from meaning link (world_after world stage) stages f.1
 
--- the messages of a world, the values of others, and the batches that are asked where the module is
+-- the messages of a world, and the values of others
 abbrev pub opt_world_messages : (meaning : Meaning) (link : Link) (world : World)
     (stages : List WorldStage) → IsWorldLife Opt meaning link world stages → List (List ℕ)
 opt_world_messages meaning link world stages f =
@@ -157,12 +157,13 @@ world_values meaning link world (stage ∷ stages) f =
     others_values_in meaning link (world stage.at) stage.part stage.after f.0
     ++ world_values meaning link (world_after world stage) stages f.1
 
-abbrev pub world_batches : (meaning : Meaning) (link : Link) (world : World)
-    (stages : List WorldStage) → IsWorldLife Opt meaning link world stages → List Batch
-world_batches meaning link world [] f = []
-world_batches meaning link world (stage ∷ stages) f =
-    call_batches (calls_in Opt meaning link (world stage.at) stage.part stage.after f.0)
-    ++ world_batches meaning link (world_after world stage) stages f.1
+-- in either variant the batches that are asked where the module is
+abbrev pub world_batches : (variant : Variant) (meaning : Meaning) (link : Link) (world : World)
+    (stages : List WorldStage) → IsWorldLife variant meaning link world stages → List Batch
+world_batches variant meaning link world [] f = []
+world_batches variant meaning link world (stage ∷ stages) f =
+    call_batches (calls_in variant meaning link (world stage.at) stage.part stage.after f.0)
+    ++ world_batches variant meaning link (world_after world stage) stages f.1
 
 -- The evidence that one holds in hand of a world that doesn't meet its premises.
 
@@ -213,7 +214,7 @@ abbrev pub HasOptWorldEvidence : (meaning : Meaning) (link : Link) (handed : Han
 HasOptWorldEvidence meaning link handed world stages f =
     HasClash (instance_of Opt meaning link (world 0))
     (opt_world_messages meaning link world stages f)
-    (world_values meaning link world stages f) (world_batches meaning link world stages f)
+    (world_values meaning link world stages f) (world_batches Opt meaning link world stages f)
     ⊎ HasWorldBreach Opt meaning link handed world stages f
 
 -- The laws of a world.
@@ -241,7 +242,7 @@ OptWorldIsOne =
     IsOptWorldAtStart meaning link world → AreRegistersTold stages →
     IsClear (opt_world_messages meaning link world stages f) →
     AreNoGuards link.barrier (world_values meaning link world stages f)
-    (world_batches meaning link world stages f) →
+    (world_batches Opt meaning link world stages f) →
     AreHonest Opt meaning link (first_handed Opt meaning link world) world stages f →
     IsOneWorld Opt meaning link (first_handed Opt meaning link world) world stages f
 
@@ -279,7 +280,7 @@ OptEvidenceIsNoPremise =
     (f : IsWorldLife Opt meaning link world stages) →
     IsClear (opt_world_messages meaning link world stages f) →
     AreNoGuards link.barrier (world_values meaning link world stages f)
-    (world_batches meaning link world stages f) →
+    (world_batches Opt meaning link world stages f) →
     AreHonest Opt meaning link (first_handed Opt meaning link world) world stages f →
     HasOptWorldEvidence meaning link (first_handed Opt meaning link world) world stages f → ⊥
 

@@ -7,7 +7,7 @@ use Rattle.std.specs.Option.{option_map_or}
 use Rattle.std.specs.Prelude.{ℕ, Bool, List, [], Result, Ok, Err, ◌∷◌, map, if◌then◌else◌, ◌≡◌, ◌==◌, length, ◌++◌, Some}
 use Rattle.std.specs.Str.{bytes_eq}
 use Rattle.mm_move.specs.declared.cell.MovedCell.TheVariants as moved
-use Rattle.mm_worlds.specs.Below.{Variant, CellFault, Standing, Meaning, Instance, instance_by, moved_cell_of, part, MovedCell, Link, Blank}
+use Rattle.mm_worlds.specs.Below.{Variant, CellFault, Standing, Meaning, Instance, barrier_of, moved_cell_of, part, MovedCell, Link, Blank}
 use Rattle.mm_worlds.specs.Below.{Live, Retired, Role, Waiting, History, IsGenuine, Accepted, MoveRefusal, MovePromise, acceptance_in}
 use Rattle.mm_worlds.specs.Below.{invitation_in, retirement_in, waiting_for, Invited, LifePart, PartLeads, start_message, blank_cell}
 use Rattle.mm_worlds.specs.Below.{normal_batch, first_history, StandsFor, issued_bytes, right_content, right_messages, right_ticket}
@@ -29,10 +29,13 @@ role_of standing = option_map_or (λ bytes. role_in (moved_cell_of bytes)) stand
 abbrev pub key_of : Standing → List ℕ
 key_of standing = option_map_or (part 40) standing.cell []
 
--- the instance that the module is on this platform
+-- the instance that the module is under a key, and on this platform
+abbrev pub instance_at : Variant → Meaning → Link → List ℕ → Instance
+instance_at variant meaning link key =
+    record { variant = variant; meaning = meaning; key = key; barrier = barrier_of variant link }
+
 abbrev pub instance_of : Variant → Meaning → Link → Standing → Instance
-instance_of variant meaning link standing =
-    instance_by variant meaning (key_of standing) link.barrier
+instance_of variant meaning link standing = instance_at variant meaning link (key_of standing)
 
 -- the bytes of the cell, and whether they are the same
 abbrev pub cell_bytes : Standing → List ℕ
@@ -68,7 +71,7 @@ snapshots_under key (s ∷ snapshots) =
 -- a snapshot that was handed out is genuine for the history, under its key
 abbrev pub IsGenuineUnder : Variant → Meaning → Link → History → KeyedSnapshot → Type 0
 IsGenuineUnder variant meaning link y s =
-    IsGenuine (instance_by variant meaning s.key link.barrier) y s.bytes
+    IsGenuine (instance_at variant meaning link s.key) y s.bytes
 
 -- the snapshot of an acceptance, the ticket of a retirement
 abbrev pub accepted_snapshots : List ℕ → Result Accepted MoveRefusal → List KeyedSnapshot
