@@ -1,5 +1,7 @@
 mod OneHistory
 mod Arriving
+mod Keeping
 mod GoingOn
+mod AllStages
 mod Putting
 mod Crossings

@@ -1,20 +1,13 @@
 -- What honest stores add to a world: each session goes on where the one list of requests stands.
-use Rattle.std.specs.Prelude.{◌≡◌, ℕ, true, List, [], ◌∷◌, ◌++◌, Some}
-use Rattle.mm_honest_worlds.specs.Below.{Basic, Standing, Batch, IsLawful, Meaning, History, requests_of, total_of, Instance, IsClear}
-use Rattle.mm_honest_worlds.specs.Below.{Link, Live, Role, Slots, StoreStanding, first_slots, FitsHistory, IsSnapshotAt, LifePart, PartGoesOn, PartLeads}
-use Rattle.mm_honest_worlds.specs.Below.{call_batches, IsSomewhere, WorldFollows, instance_of, role_of, AreHonest, IsWorldAtStart, calls_in}
+use Rattle.std.specs.Prelude.{◌≡◌, ℕ, true, List, [], ◌∷◌, Some}
+use Rattle.mm_honest_worlds.specs.Below.{Variant, Basic, Opt, Standing, Batch, IsLawful, Meaning, History, requests_of, total_of, Instance}
+use Rattle.mm_honest_worlds.specs.Below.{AreNoGuards, IsClear, Link, Live, Role, Slots, StoreStanding, first_slots, FitsHistory, IsSnapshotAt}
+use Rattle.mm_honest_worlds.specs.Below.{LifePart, PartGoesOn, PartLeads, AreRegistersTold, IsOptWorldAtStart, IsSomewhere, WorldFollows}
+use Rattle.mm_honest_worlds.specs.Below.{opt_world_messages, world_batches, world_values, instance_of, role_of, AreHonest, IsWorldAtStart}
 use Rattle.mm_honest_worlds.specs.Below.{first_handed, world_messages, IsWorldLife, Lives, World, WorldPart, WorldPartLeads, WorldStage}
 use Rattle.mm_honest_worlds.specs.Below.{world_after, world_at_end}
 use Rattle.mm_honest_worlds.specs.HostStores.{Arrived, HostStore, HostStores, IsOverStores, LeaveNoChance, LeftAs, Unknown, stores_at_end}
 use Rattle.mm_honest_worlds.specs.HostStores.{stores_at_start}
-
--- the batches that are asked where the module is
-abbrev pub asked_batches : (meaning : Meaning) (link : Link) (world : World)
-    (stages : List WorldStage) → IsWorldLife Basic meaning link world stages → List Batch
-asked_batches meaning link world [] f = []
-asked_batches meaning link world (stage ∷ stages) f =
-    call_batches (calls_in Basic meaning link (world stage.at) stage.part stage.after f.0)
-    ++ asked_batches meaning link (world_after world stage) stages f.1
 
 -- An honest store that shows its slots, which fit the history.
 pub record KeepsFitting (i : Instance) (y : History) (kept : StoreStanding) : Type 0 where
@@ -32,26 +25,28 @@ StoreFits i y (Arrived accepted) =
     IsSnapshotAt i y accepted.snapshot accepted.position
     × (accepted.position ≡ total_of y.batches)
 
--- What is said of one world: the requests that were asked are among these, and the messages of its
--- history in a list.
-module _ (all : List (List ℕ)) (asked : List Batch) (meaning : Meaning) (link : Link) where
+-- What is said of one world: the requests that were asked and the values of others are among these,
+-- and the messages of its history in a list.
+module _ (variant : Variant) (all others : List (List ℕ)) (asked : List Batch) (meaning : Meaning)
+    (link : Link) where
   -- Where the module is, a part goes on from a list of requests to another, as in the life of one
   -- platform; a move leaves the list, and so does what is done elsewhere.
   abbrev pub GoesOnIfLive : (role : Role) (old : Standing) (part : LifePart) (new : Standing)
-      → PartLeads Basic meaning old part new → List (List ℕ) → List (List ℕ) → Type 0
+      → PartLeads variant meaning old part new → List (List ℕ) → List (List ℕ) → Type 0
   GoesOnIfLive Live old part new f requests after =
-      PartGoesOn all [] asked (instance_of Basic meaning link old) old part new f requests after
+      PartGoesOn all others asked (instance_of variant meaning link old) old part new f requests
+      after
   GoesOnIfLive role old part new f requests after = after ≡ requests
 
   abbrev pub WorldPartGoesOn : (old : Standing) (part : WorldPart) (new : Standing)
-      → WorldPartLeads Basic meaning link old part new → List (List ℕ) → List (List ℕ) → Type 0
+      → WorldPartLeads variant meaning link old part new → List (List ℕ) → List (List ℕ) → Type 0
   WorldPartGoesOn old (Lives part) new f requests after =
       GoesOnIfLive (role_of old) old part new f requests after
   WorldPartGoesOn old move new f requests after = after ≡ requests
 
   -- each part goes on from the requests that those before it left, on whatever platform
   abbrev pub WorldGoesOnFrom : (world : World) (stages : List WorldStage)
-      → IsWorldLife Basic meaning link world stages → List (List ℕ) → List (List ℕ) → Type 0
+      → IsWorldLife variant meaning link world stages → List (List ℕ) → List (List ℕ) → Type 0
   WorldGoesOnFrom world [] f requests after = after ≡ requests
   WorldGoesOnFrom world (stage ∷ stages) f requests after =
       (between : List (List ℕ))
@@ -62,15 +57,15 @@ module _ (all : List (List ℕ)) (asked : List Batch) (meaning : Meaning) (link 
   -- where the module is goes on where this stands. At the end the module is somewhere, at a history
   -- of this list, which what is known of the store there fits: so the next session may go on.
   pub record IsWorldGoneOn (stores : HostStores) (world : World) (stages : List WorldStage)
-      (f : IsWorldLife Basic meaning link world stages) : Type 0 where
+      (f : IsWorldLife variant meaning link world stages) : Type 0 where
     pub after : List (List ℕ)
     pub goes : WorldGoesOnFrom world stages f [] after
-    pub follows : WorldFollows Basic meaning link world stages f [] after
+    pub follows : WorldFollows variant meaning link world stages f [] after
     pub history : History
     pub holds : requests_of history.batches ≡ after
-    pub somewhere : IsSomewhere Basic meaning link (world_at_end world stages) history
+    pub somewhere : IsSomewhere variant meaning link (world_at_end world stages) history
     pub fits : (at : ℕ) → role_of (world_at_end world stages at) ≡ Live
-        → StoreFits (instance_of Basic meaning link (world_at_end world stages at)) history
+        → StoreFits (instance_of variant meaning link (world_at_end world stages at)) history
         (stores_at_end stores world stages at)
 
 -- Basic: a world over the store of a first start, and honest ones wherever the module arrives, is
@@ -87,5 +82,27 @@ BasicWorldGoesOn =
     IsClear (world_messages Basic meaning link world stages f) →
     AreHonest Basic meaning link (first_handed Basic meaning link world) world stages f →
     LeaveNoChance Basic meaning link world stages f →
-    IsWorldGoneOn (world_messages Basic meaning link world stages f)
-    (asked_batches meaning link world stages f) meaning link (stores_at_start kept) world stages f
+    IsWorldGoneOn Basic (world_messages Basic meaning link world stages f) []
+    (world_batches Basic meaning link world stages f) meaning link (stores_at_start kept) world
+    stages f
+
+-- Opt: the same, from a register that others had extended, where besides the messages by which the
+-- register's items went into it where the module is, and those of retirements' offers, share no
+-- digest, no value of others is the guard of a batch that was asked, and a platform tells its
+-- register where a ticket was offered to it.
+abbrev pub OptWorldGoesOn : Type 0
+OptWorldGoesOn =
+    (meaning : Meaning) → IsLawful meaning → (link : Link) (world : World) (kept : StoreStanding)
+    (stages : List WorldStage) (f : IsWorldLife Opt meaning link world stages) →
+    IsOptWorldAtStart meaning link world → AreRegistersTold stages →
+    kept.is_honest ≡ true →
+    kept.slots ≡ Some (first_slots (instance_of Opt meaning link (world 0))) →
+    IsOverStores (stores_at_start kept) world stages →
+    IsClear (opt_world_messages meaning link world stages f) →
+    AreNoGuards link.barrier (world_values meaning link world stages f)
+    (world_batches Opt meaning link world stages f) →
+    AreHonest Opt meaning link (first_handed Opt meaning link world) world stages f →
+    LeaveNoChance Opt meaning link world stages f →
+    IsWorldGoneOn Opt (opt_world_messages meaning link world stages f)
+    (world_values meaning link world stages f) (world_batches Opt meaning link world stages f)
+    meaning link (stores_at_start kept) world stages f

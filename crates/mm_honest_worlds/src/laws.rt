@@ -1,8 +1,8 @@
 //! The laws of a world over honest stores, each the contract of a function that calls what it
 //! needs.
 
-ghost use Rattle.mm_honest_worlds.specs.GoingOn.{BasicWorldGoesOn};
-ghost use Rattle.mm_honest_worlds.specs.Laws.{WorldGoesOnOrEvidence};
+ghost use Rattle.mm_honest_worlds.specs.GoingOn.{BasicWorldGoesOn, OptWorldGoesOn};
+ghost use Rattle.mm_honest_worlds.specs.Laws.{OptWorldGoesOnOrEvidence, WorldGoesOnOrEvidence};
 
 use mm_life::parts_are_refused_elsewhere;
 
@@ -17,10 +17,27 @@ pub fn basic_world_goes_on()
     parts_are_refused_elsewhere();
 }
 
+/// Opt: the same, from a register that others had extended. A session may be refused besides as
+/// the history tells: as Lost where power was lost inside an open segment, and as Stale where a
+/// value of others is in the register.
+pub fn opt_world_goes_on()
+    ensures { OptWorldGoesOn }
+{
+    parts_are_refused_elsewhere();
+}
+
 /// With no premise but the start, and what the stores show where the module is: it goes on so, or
 /// one holds evidence in hand, a clash of two messages, or a part that breaks something.
 pub fn world_goes_on_or_evidence()
     ensures { WorldGoesOnOrEvidence }
 {
     basic_world_goes_on();
+}
+
+/// Opt: with no premise but the start, what the stores show where the module is, and registers that
+/// are told where tickets are offered: it goes on so, or one holds evidence in hand.
+pub fn opt_world_goes_on_or_evidence()
+    ensures { OptWorldGoesOnOrEvidence }
+{
+    opt_world_goes_on();
 }

@@ -1,4 +1,4 @@
-use Rattle.mm_honest_worlds.proofs.GoingOn.{basic_goes_on}
+use Rattle.mm_honest_worlds.proofs.AllStages.{basic_goes_on}
 use Rattle.mm_honest_worlds.proofs.laws.basic_world_goes_on.Goals as goal
 
 pub returns : goal.returns
