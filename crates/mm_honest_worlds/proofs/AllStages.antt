@@ -6,7 +6,6 @@ use Rattle.mm_digest.specs.declared.variant.Variant.TheVariants.{Basic, Opt}
 use Rattle.mm_platform.specs.Standing.{Standing}
 use Rattle.mm_module.specs.Batch.{Batch}
 use Rattle.mm_module.specs.Meaning.{Meaning}
-use Rattle.mm_model.specs.Chains.{Instance}
 use Rattle.mm_model.specs.History.{History, first_history, requests_of}
 use Rattle.mm_model.specs.ListLaws.{each_self}
 use Rattle.mm_evidence.proofs.Above.{clash_or}
@@ -17,15 +16,14 @@ use Rattle.mm_move.specs.declared.link.Link.{Link}
 use Rattle.mm_recovery.specs.FirstStart.{first_history_on, first_slots}
 use Rattle.mm_recovery.specs.HostStanding.{FitsHistory}
 use Rattle.mm_recovery.proofs.Above.{is_first}
-use Rattle.mm_sides.specs.BothSides.{Live}
 use Rattle.mm_store.specs.StoreStanding.{StoreStanding}
 use Rattle.mm_worlds.specs.OneWorld.{IsSomewhere, WorldFollows, lives, opt_world_messages, travels, world_batches, world_values}
-use Rattle.mm_worlds.specs.Premises.{Handed, instance_of, key_of, role_of, AreHonest, first_handed, handed_after, handed_at_end}
+use Rattle.mm_worlds.specs.Premises.{Handed, instance_of, key_of, AreHonest, first_handed, handed_after, handed_at_end}
 use Rattle.mm_worlds.specs.Premises.{IsWorldLife, World, WorldPart, WorldPartLeads, WorldStage, world_after, world_at_end, world_messages}
 use Rattle.mm_worlds.proofs.Above.{AreAsked, StageLaws, StandsInOrder, all_or, basic_listed, basic_stages, basic_starts, opt_listed}
 use Rattle.mm_worlds.proofs.Above.{opt_stages, opt_starts, same_number, somewhere}
 use Rattle.mm_honest_worlds.specs.GoingOn.{BasicWorldGoesOn, IsWorldGoneOn, OptWorldGoesOn, StoreFits, WorldGoesOnFrom}
-use Rattle.mm_honest_worlds.specs.HostStores.{HostStore, HostStores, IsOverStores, LeaveNoChance, LeftAs, Unknown, stores_after}
+use Rattle.mm_honest_worlds.specs.HostStores.{HostStores, IsOverStores, LeaveNoChance, LeftAs, Unknown, stores_after}
 use Rattle.mm_honest_worlds.specs.HostStores.{stores_at_end, stores_at_start}
 use Rattle.mm_honest_worlds.specs.Laws.{OptWorldGoesOnOrEvidence}
 use Rattle.mm_honest_worlds.proofs.Arriving.{held_by, is_here}

@@ -1,6 +1,6 @@
 -- A world over honest stores goes on, in either variant, from the history that what is known of the stores fits.
 use Rattle.std.specs.List.{Contains}
-use Rattle.std.proofs.Common.{◌≡◌, ◌∙◌, ℕ, true, List, [], Option, None, Some, Result, Ok, Err, arith, refl, sym, ap, subst, inl, inr}
+use Rattle.std.proofs.Common.{◌≡◌, ◌∙◌, ℕ, true, List, [], Option, None, Some, Ok, Err, arith, refl, sym, ap, subst, inl, inr}
 use Rattle.std.proofs.Common.{◌⊎◌, ◌+◌, ◌-◌, ◌%◌, length}
 use Rattle.mm_digest.specs.declared.variant.Variant.{Variant}
 use Rattle.mm_platform.specs.Standing.{Standing}

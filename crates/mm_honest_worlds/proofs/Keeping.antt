@@ -72,125 +72,125 @@ module _ {variant : Variant} {meaning : Meaning} {link : Link} {all others : Lis
 
     -- The world behind a stage: the platform where it was, and each other.
     module _ (new : Standing) (after : History) (given : Handed) (t : Stands (changed_at world at new) after given) (known : HostStore)
-        where
-      abbrev KeepsThen : History → Type 0
-      KeepsThen w = Keeps (changed_at world at new) after w (changed_at stores at known)
+      where
+        abbrev KeepsThen : History → Type 0
+        KeepsThen w = Keeps (changed_at world at new) after w (changed_at stores at known)
 
-      fits_changed : (w : History) → (role_of new ≡ Live → Fits new w known)
-          → ((other : ℕ) → (other ≡ at → ⊥) → role_of (world other) ≡ Live → Fits (world other) w (stores other)) → (other : ℕ)
-          → role_of (changed_at world at new other) ≡ Live → Fits (changed_at world at new other) w (changed_at stores at known other)
-      fits_changed w there elsewhere other = by_number (other == at) refl
-        where
-          by_number : (b : Bool) → (other == at) ≡ b → role_of (if b then new else world other) ≡ Live
-              → Fits (if b then new else world other) w (if b then known else stores other)
-          by_number true e live = there live
-          by_number false e live = elsewhere other (other_number other at e) live
+        fits_changed : (w : History) → (role_of new ≡ Live → Fits new w known)
+            → ((other : ℕ) → (other ≡ at → ⊥) → role_of (world other) ≡ Live → Fits (world other) w (stores other)) → (other : ℕ)
+            → role_of (changed_at world at new other) ≡ Live → Fits (changed_at world at new other) w (changed_at stores at known other)
+        fits_changed w there elsewhere other = by_number (other == at) refl
+          where
+            by_number : (b : Bool) → (other == at) ≡ b → role_of (if b then new else world other) ≡ Live
+                → Fits (if b then new else world other) w (if b then known else stores other)
+            by_number true e live = there live
+            by_number false e live = elsewhere other (other_number other at e) live
 
-      live_there : (other : ℕ) → (other ≡ at → ⊥) → role_of (world other) ≡ Live → role_of (changed_at world at new other) ≡ Live
-      live_there other differs live = ap role_of (there_changed world at new other differs) ∙ live
+        live_there : (other : ℕ) → (other ≡ at → ⊥) → role_of (world other) ≡ Live → role_of (changed_at world at new other) ≡ Live
+        live_there other differs live = ap role_of (there_changed world at new other differs) ∙ live
 
-      live_then : role_of new ≡ Live → role_of (changed_at world at new at) ≡ Live
-      live_then live = ap role_of (here_changed world at new) ∙ live
+        live_then : role_of new ≡ Live → role_of (changed_at world at new at) ≡ Live
+        live_then live = ap role_of (here_changed world at new) ∙ live
 
-      -- where it is live then, no other is
-      alone : role_of new ≡ Live → (other : ℕ) → (other ≡ at → ⊥) → role_of (world other) ≡ Live → ⊥
-      alone live other differs role =
-          differs ((is_here laws (changed_at world at new) after given t at (live_then live)).only other (live_there other differs role))
+        -- where it is live then, no other is
+        alone : role_of new ≡ Live → (other : ℕ) → (other ≡ at → ⊥) → role_of (world other) ≡ Live → ⊥
+        alone live other differs role =
+            differs ((is_here laws (changed_at world at new) after given t at (live_then live)).only other (live_there other differs role))
 
-      -- the module is here, at a history that goes on from the one before
-      pub keeps_here : (w : History) → StandsFor here new w → IsWithin all others asked here w → StoreFits here w known → KeepsThen w
-      keeps_here w stands within fits =
-          let held = held_by variant meaning link (key_of old) new w stands in
-          record {
-            within = within_key variant meaning link (key_of old) link.key all others asked w within;
-            there = fits_changed w (λ live. record {
-              stands = subst (λ (k : List ℕ). StandsFor (instance_at variant meaning link k) new w) (sym held.1) stands;
-              fits = subst (λ (k : List ℕ). StoreFits (instance_at variant meaning link k) w known) (sym held.1) fits;
-            }) (λ other differs live. absurd (alone held.0 other differs live));
-            away = λ none. absurd (none at (live_then held.0));
-          }
-
-      -- the module neither was here nor is
-      pub keeps_by : (role_of old ≡ Live → ⊥) → (role_of new ≡ Live → ⊥) → requests_of after.batches ≡ requests_of y.batches → KeepsThen z
-      keeps_by before behind same = record {
-        within = keeps.within;
-        there = fits_changed z (λ live. absurd (behind live)) (λ other differs live. keeps.there other live);
-        away = λ none. keeps.away (λ other live. nobody none other (other == at) refl live) ∙ sym same;
-      }
-        where
-          nobody : ((other : ℕ) → role_of (changed_at world at new other) ≡ Live → ⊥) → (other : ℕ) (b : Bool) → (other == at) ≡ b
-              → role_of (world other) ≡ Live → ⊥
-          nobody none other true e live =
-              before (subst (λ (n : ℕ). role_of (world n) ≡ Live) (same_number other at e) live)
-          nobody none other false e live = none other (live_there other (other_number other at e) live)
-
-      -- the module left here, or it arrived: what is known of a store fits the history by which the world is one
-      settles : (role_of new ≡ Live → StoreFits (instance_of variant meaning link new) after known)
-          → ((other : ℕ) → (other ≡ at → ⊥) → role_of (world other) ≡ Live → ⊥) → KeepsThen after
-      settles fits none = record {
-        within = t.within;
-        there = fits_changed after (λ live. record {
-          stands = subst (λ (x : Standing). StandsFor (instance_of variant meaning link x) x after) (here_changed world at new)
-              (is_here laws (changed_at world at new) after given t at (live_then live)).stands;
-          fits = fits live;
-        }) (λ other differs live. absurd (none other differs live));
-        away = λ nobody. refl;
-      }
-
-      -- A move that leaves the list of the world.
-      pub record Moved : Type 0 where
-        pub kept : History
-        pub keeps_then : KeepsThen kept
-        pub same : requests_of kept.batches ≡ requests_of z.batches
-
-      -- Where the module was it rests, at the same batches; or it stood at the end of a history without an open segment.
-      pub record Rests : Type 0 where
-        pub kept : History
-        pub stands : StandsFor here new kept
-        pub within : IsWithin all others asked here kept
-        pub batches : kept.batches ≡ z.batches
-        pub fits : StoreFits here kept known
-
-      pub record Ended : Type 0 where
-        pub shut : y.is_open ≡ false
-        pub unmarred : IsUnmarred variant y
-        pub fits : role_of new ≡ Live → StoreFits (instance_of variant meaning link new) after known
-
-      module _ (same : requests_of after.batches ≡ requests_of y.batches) where
-        moved_here : role_of old ≡ Live → Rests ⊎ Ended → Moved
-        moved_here live (inl r) = record {
-          kept = r.kept;
-          keeps_then = keeps_here r.kept r.stands r.within r.fits;
-          same = ap requests_of r.batches;
-        }
-        moved_here live (inr e) =
-            let h = is_here laws world y handed s at live in
+        -- the module is here, at a history that goes on from the one before
+        pub keeps_here : (w : History) → StandsFor here new w → IsWithin all others asked here w → StoreFits here w known → KeepsThen w
+        keeps_here w stands within fits =
+            let held = held_by variant meaning link (key_of old) new w stands in
             record {
-              kept = after;
-              keeps_then = settles e.fits (λ other differs role. differs (h.only other role));
-              same = same ∙ ap requests_of (sym (one_history variant meaning link (key_of old) all others asked laws.clear
-                  laws.guarded old y z h.stands (keeps.there at live).stands h.within within_here e.shut e.unmarred));
+              within = within_key variant meaning link (key_of old) link.key all others asked w within;
+              there = fits_changed w (λ live. record {
+                stands = subst (λ (k : List ℕ). StandsFor (instance_at variant meaning link k) new w) (sym held.1) stands;
+                fits = subst (λ (k : List ℕ). StoreFits (instance_at variant meaning link k) w known) (sym held.1) fits;
+              }) (λ other differs live. absurd (alone held.0 other differs live));
+              away = λ none. absurd (none at (live_then held.0));
             }
 
-        moved_there : (role_of old ≡ Live → ⊥) → (role_of new ≡ Live → StoreFits (instance_of variant meaning link new) after known)
-            → Moved
-        moved_there away fits = elim (live_or (role_of new)) [
-          | inl live ↦ record {
-            kept = after;
-            keeps_then = settles fits (alone live);
-            same = same ∙ sym (keeps.away (λ other role. nobody live other (other == at) refl role));
-          }
-          | inr gone ↦ record { kept = z; keeps_then = keeps_by away gone same; same = refl }
-        ]
+        -- the module neither was here nor is
+        pub keeps_by : (role_of old ≡ Live → ⊥) → (role_of new ≡ Live → ⊥) → requests_of after.batches ≡ requests_of y.batches → KeepsThen z
+        keeps_by before behind same = record {
+          within = keeps.within;
+          there = fits_changed z (λ live. absurd (behind live)) (λ other differs live. keeps.there other live);
+          away = λ none. keeps.away (λ other live. nobody none other (other == at) refl live) ∙ sym same;
+        }
           where
-            nobody : role_of new ≡ Live → (other : ℕ) (b : Bool) → (other == at) ≡ b → role_of (world other) ≡ Live → ⊥
-            nobody live other true e role =
-                away (subst (λ (n : ℕ). role_of (world n) ≡ Live) (same_number other at e) role)
-            nobody live other false e role = alone live other (other_number other at e) role
+            nobody : ((other : ℕ) → role_of (changed_at world at new other) ≡ Live → ⊥) → (other : ℕ) (b : Bool) → (other == at) ≡ b
+                → role_of (world other) ≡ Live → ⊥
+            nobody none other true e live =
+                before (subst (λ (n : ℕ). role_of (world n) ≡ Live) (same_number other at e) live)
+            nobody none other false e live = none other (live_there other (other_number other at e) live)
 
-        pub moved_on : (role_of old ≡ Live → Rests ⊎ Ended)
-            → ((role_of old ≡ Live → ⊥) → role_of new ≡ Live → StoreFits (instance_of variant meaning link new) after known) → Moved
-        moved_on was enters = elim (live_or (role_of old)) [
-          | inl live ↦ moved_here live (was live)
-          | inr away ↦ moved_there away (enters away)
-        ]
+        -- the module left here, or it arrived: what is known of a store fits the history by which the world is one
+        settles : (role_of new ≡ Live → StoreFits (instance_of variant meaning link new) after known)
+            → ((other : ℕ) → (other ≡ at → ⊥) → role_of (world other) ≡ Live → ⊥) → KeepsThen after
+        settles fits none = record {
+          within = t.within;
+          there = fits_changed after (λ live. record {
+            stands = subst (λ (x : Standing). StandsFor (instance_of variant meaning link x) x after) (here_changed world at new)
+                (is_here laws (changed_at world at new) after given t at (live_then live)).stands;
+            fits = fits live;
+          }) (λ other differs live. absurd (none other differs live));
+          away = λ nobody. refl;
+        }
+
+        -- A move that leaves the list of the world.
+        pub record Moved : Type 0 where
+          pub kept : History
+          pub keeps_then : KeepsThen kept
+          pub same : requests_of kept.batches ≡ requests_of z.batches
+
+        -- Where the module was it rests, at the same batches; or it stood at the end of a history without an open segment.
+        pub record Rests : Type 0 where
+          pub kept : History
+          pub stands : StandsFor here new kept
+          pub within : IsWithin all others asked here kept
+          pub batches : kept.batches ≡ z.batches
+          pub fits : StoreFits here kept known
+
+        pub record Ended : Type 0 where
+          pub shut : y.is_open ≡ false
+          pub unmarred : IsUnmarred variant y
+          pub fits : role_of new ≡ Live → StoreFits (instance_of variant meaning link new) after known
+
+        module _ (same : requests_of after.batches ≡ requests_of y.batches) where
+          moved_here : role_of old ≡ Live → Rests ⊎ Ended → Moved
+          moved_here live (inl r) = record {
+            kept = r.kept;
+            keeps_then = keeps_here r.kept r.stands r.within r.fits;
+            same = ap requests_of r.batches;
+          }
+          moved_here live (inr e) =
+              let h = is_here laws world y handed s at live in
+              record {
+                kept = after;
+                keeps_then = settles e.fits (λ other differs role. differs (h.only other role));
+                same = same ∙ ap requests_of (sym (one_history variant meaning link (key_of old) all others asked laws.clear
+                    laws.guarded old y z h.stands (keeps.there at live).stands h.within within_here e.shut e.unmarred));
+              }
+
+          moved_there : (role_of old ≡ Live → ⊥) → (role_of new ≡ Live → StoreFits (instance_of variant meaning link new) after known)
+              → Moved
+          moved_there away fits = elim (live_or (role_of new)) [
+            | inl live ↦ record {
+              kept = after;
+              keeps_then = settles fits (alone live);
+              same = same ∙ sym (keeps.away (λ other role. nobody live other (other == at) refl role));
+            }
+            | inr gone ↦ record { kept = z; keeps_then = keeps_by away gone same; same = refl }
+          ]
+            where
+              nobody : role_of new ≡ Live → (other : ℕ) (b : Bool) → (other == at) ≡ b → role_of (world other) ≡ Live → ⊥
+              nobody live other true e role =
+                  away (subst (λ (n : ℕ). role_of (world n) ≡ Live) (same_number other at e) role)
+              nobody live other false e role = alone live other (other_number other at e) role
+
+          pub moved_on : (role_of old ≡ Live → Rests ⊎ Ended)
+              → ((role_of old ≡ Live → ⊥) → role_of new ≡ Live → StoreFits (instance_of variant meaning link new) after known) → Moved
+          moved_on was enters = elim (live_or (role_of old)) [
+            | inl live ↦ moved_here live (was live)
+            | inr away ↦ moved_there away (enters away)
+          ]

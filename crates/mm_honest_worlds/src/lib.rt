@@ -8,4 +8,7 @@ mod laws;
 
 pub use arrival::{empty_records, put_arrival};
 pub use carrying::{Carried, CarryingFault, carry_over};
-pub use laws::{basic_world_goes_on, opt_world_goes_on, opt_world_goes_on_or_evidence, world_goes_on_or_evidence};
+pub use laws::{
+    basic_world_goes_on, opt_world_goes_on, opt_world_goes_on_or_evidence,
+    world_goes_on_or_evidence,
+};
