@@ -1,1 +1,2 @@
 mod MortalWorlds
+mod OverStores

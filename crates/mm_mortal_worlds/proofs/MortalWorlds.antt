@@ -20,14 +20,14 @@ use Rattle.mm_life.specs.Deeds.{LifeCall}
 use Rattle.mm_life.specs.Premises.{IsUntagged, bytes_unless_idle, call_batches, closing_messages, shown_messages, snapshots_of}
 use Rattle.mm_life.specs.Stages.{LifePart}
 use Rattle.mm_moments.specs.MortalLives.{Dies as KilledPart, MortalLivesEnd}
-use Rattle.mm_worlds.specs.OneWorld.{HasWorldBreach, IsWorldBreach, forged_offer, forged_ticket, nonce_twice, BasicWorldIsOne}
+use Rattle.mm_worlds.specs.OneWorld.{HasOptWorldEvidence, HasWorldBreach, HasWorldEvidence, IsWorldBreach, forged_offer, forged_ticket, nonce_twice, BasicWorldIsOne}
 use Rattle.mm_worlds.specs.OneWorld.{OptWorldIsOne, OptWorldIsOneOrEvidence, WorldIsOneOrEvidence, WorldsKeepPromises, IsOneWorld}
 use Rattle.mm_worlds.specs.OneWorld.{world_part_replies, world_replies, AreRegistersTold, TellsRegister, bytes_if_live, opt_messages_from}
 use Rattle.mm_worlds.specs.OneWorld.{opt_messages_in, others_values_in, world_batches, world_values}
 use Rattle.mm_worlds.specs.Premises.{Handed, IsGenuineUnder, keyed_snapshots, snapshots_under, instance_of, key_of, role_of, AreHonest}
 use Rattle.mm_worlds.specs.Premises.{IsHonest, asked_messages, calls_at, calls_in, first_handed, first_offers, handed_after, handed_at_end}
 use Rattle.mm_worlds.specs.Premises.{messages_from, IsWorldLife, World, WorldStage}
-use Rattle.mm_mortal_worlds.specs.MortalEvidence.{HasMortalBreach, IsMortalBreach}
+use Rattle.mm_mortal_worlds.specs.MortalEvidence.{HasMortalBreach, HasMortalWorldEvidence, HasOptMortalWorldEvidence, IsMortalBreach}
 use Rattle.mm_mortal_worlds.specs.MortalWorlds.{AreMortalHonest, AreMortalRegistersTold, IsMortalHonest, MortalTellsRegister}
 use Rattle.mm_mortal_worlds.specs.MortalWorlds.{mortal_calls_in, mortal_handed_after, mortal_handed_at_end, mortal_messages_from}
 use Rattle.mm_mortal_worlds.specs.MortalWorlds.{mortal_opt_messages_from, mortal_opt_messages_in, mortal_values_in, mortal_world_batches}
@@ -98,11 +98,11 @@ module _ (variant : Variant) (meaning : Meaning) (link : Link) where
     }
 
   module _ (world : World) where
-    abbrev ended : (stages : List MortalWorldStage) (f : IsMortalWorldLife variant meaning link world stages)
+    abbrev pub ended : (stages : List MortalWorldStage) (f : IsMortalWorldLife variant meaning link world stages)
         → WorldEnds variant meaning link world stages f → List WorldStage
     ended stages f e = ended_world_stages variant meaning link world stages f e
 
-    abbrev life : (stages : List MortalWorldStage) (f : IsMortalWorldLife variant meaning link world stages)
+    abbrev pub life : (stages : List MortalWorldStage) (f : IsMortalWorldLife variant meaning link world stages)
         (e : WorldEnds variant meaning link world stages f) → IsWorldLife variant meaning link world (ended stages f e)
     life stages f e = ended_world_life variant meaning link world stages f e
 
@@ -117,7 +117,7 @@ module _ (variant : Variant) (meaning : Meaning) (link : Link) where
       (handed_same (world stage.at) handed stage.part stage.after f.0 e.0)
       ∙ handed_end (mortal_handed_after variant meaning link handed (world stage.at) stage.part stage.after f.0) next stages f.1 e.1
 
-  honest : (handed : Handed) (world : World) (stages : List MortalWorldStage)
+  pub honest : (handed : Handed) (world : World) (stages : List MortalWorldStage)
       (f : IsMortalWorldLife variant meaning link world stages) (e : WorldEnds variant meaning link world stages f)
       → AreMortalHonest variant meaning link handed world stages f
       → AreHonest variant meaning link handed world (ended world stages f e) (life world stages f e)
@@ -181,12 +181,21 @@ module _ (variant : Variant) (meaning : Meaning) (link : Link) where
       let here = replies_here (world stage.at) stage.part stage.after f.0 e.0 in
       let rest = replies_same (mortal_world_after world stage) stages f.1 e.1 in λ j. here j ++ rest j
 
+  pub batches_same : (world : World) (stages : List MortalWorldStage) (f : IsMortalWorldLife variant meaning link world stages)
+      (e : WorldEnds variant meaning link world stages f)
+      → world_batches variant meaning link world (ended world stages f e) (life world stages f e)
+      ≡ mortal_world_batches variant meaning link world stages f
+  batches_same world [] f e = refl
+  batches_same world (stage ∷ stages) f e =
+      let here = calls_same (world stage.at) stage.part stage.after f.0 e.0 in
+      let rest = batches_same (mortal_world_after world stage) stages f.1 e.1 in λ j. call_batches (here j) ++ rest j
+
 pub worlds_end : MortalLivesEnd → MortalWorldsEnd
 worlds_end end variant meaning lawful link world stages f = world_ends variant meaning link end lawful world stages f
 
 module _ (meaning : Meaning) (link : Link) where
   -- Basic
-  messages_same : (world : World) (stages : List MortalWorldStage) (f : IsMortalWorldLife Basic meaning link world stages)
+  pub messages_same : (world : World) (stages : List MortalWorldStage) (f : IsMortalWorldLife Basic meaning link world stages)
       (e : WorldEnds Basic meaning link world stages f)
       → messages_from Basic meaning link world (ended Basic meaning link world stages f e) (life Basic meaning link world stages f e)
       ≡ mortal_messages_from meaning link world stages f
@@ -223,7 +232,7 @@ module _ (meaning : Meaning) (link : Link) where
       let here = calls_same Opt meaning link old (Dies p) new k e in
       λ j. bytes_if_live (role_of old) (bytes_unless_idle old (here j) (option_map_or foreign_items new.items []))
 
-  opt_messages_same : (world : World) (stages : List MortalWorldStage) (f : IsMortalWorldLife Opt meaning link world stages)
+  pub opt_messages_same : (world : World) (stages : List MortalWorldStage) (f : IsMortalWorldLife Opt meaning link world stages)
       (e : WorldEnds Opt meaning link world stages f)
       → opt_messages_from meaning link world (ended Opt meaning link world stages f e) (life Opt meaning link world stages f e)
       ≡ mortal_opt_messages_from meaning link world stages f
@@ -232,7 +241,7 @@ module _ (meaning : Meaning) (link : Link) where
       let here = opt_messages_here (world stage.at) stage.part stage.after f.0 e.0 in
       let rest = opt_messages_same (mortal_world_after world stage) stages f.1 e.1 in λ j. here j ++ rest j
 
-  values_same : (world : World) (stages : List MortalWorldStage) (f : IsMortalWorldLife Opt meaning link world stages)
+  pub values_same : (world : World) (stages : List MortalWorldStage) (f : IsMortalWorldLife Opt meaning link world stages)
       (e : WorldEnds Opt meaning link world stages f)
       → world_values meaning link world (ended Opt meaning link world stages f e) (life Opt meaning link world stages f e)
       ≡ mortal_world_values meaning link world stages f
@@ -241,22 +250,13 @@ module _ (meaning : Meaning) (link : Link) where
       let here = values_here (world stage.at) stage.part stage.after f.0 e.0 in
       let rest = values_same (mortal_world_after world stage) stages f.1 e.1 in λ j. here j ++ rest j
 
-  batches_same : (world : World) (stages : List MortalWorldStage) (f : IsMortalWorldLife Opt meaning link world stages)
-      (e : WorldEnds Opt meaning link world stages f)
-      → world_batches Opt meaning link world (ended Opt meaning link world stages f e) (life Opt meaning link world stages f e)
-      ≡ mortal_world_batches meaning link world stages f
-  batches_same world [] f e = refl
-  batches_same world (stage ∷ stages) f e =
-      let here = calls_same Opt meaning link (world stage.at) stage.part stage.after f.0 e.0 in
-      let rest = batches_same (mortal_world_after world stage) stages f.1 e.1 in λ j. call_batches (here j) ++ rest j
-
   tells_here : (old : Standing) (part : MortalWorldPart) (new : Standing)
       (f : MortalWorldPartLeads Opt meaning link old part new) (e : WorldPartEnds Opt meaning link old part new f)
       → MortalTellsRegister part new → TellsRegister (ended_part Opt meaning link old part new f e) new
   tells_here old (Happens part) new f e told = told
   tells_here old (Dies p) new k e told = tt
 
-  registers_told : (world : World) (stages : List MortalWorldStage) (f : IsMortalWorldLife Opt meaning link world stages)
+  pub registers_told : (world : World) (stages : List MortalWorldStage) (f : IsMortalWorldLife Opt meaning link world stages)
       (e : WorldEnds Opt meaning link world stages f) → AreMortalRegistersTold stages
       → AreRegistersTold (ended Opt meaning link world stages f e)
   registers_told world [] f e told = tt
@@ -287,42 +287,54 @@ opt_one end law meaning lawful link world stages f start told clear apart asked 
     (world_batches Opt meaning link world (ended Opt meaning link world stages f e) (life Opt meaning link world stages f e)))
     (sym (values_same meaning link world stages f e))
     (subst (λ (batches : List Batch). AreNoGuards link.barrier (mortal_world_values meaning link world stages f) batches)
-    (sym (batches_same meaning link world stages f e)) apart)) (honest Opt meaning link begun world stages f e asked))
+    (sym (batches_same Opt meaning link world stages f e)) apart)) (honest Opt meaning link begun world stages f e asked))
+
+-- what is evidence of the world in which they ended is evidence of this one
+pub evidence : (meaning : Meaning) (link : Link) (world : World) (stages : List MortalWorldStage)
+    (f : IsMortalWorldLife Basic meaning link world stages) (e : WorldEnds Basic meaning link world stages f)
+    → HasWorldEvidence Basic meaning link (first_handed Basic meaning link world) world (ended Basic meaning link world stages f e)
+    (life Basic meaning link world stages f e)
+    → HasMortalWorldEvidence meaning link (first_handed Basic meaning link world) world stages f
+evidence meaning link world stages f e (inl clash) =
+    inl (subst (λ (messages : List (List ℕ)). HasClash (instance_of Basic meaning link (world 0))
+    (start_message Basic meaning.id ∷ messages) [] []) (messages_same meaning link world stages f e) clash)
+evidence meaning link world stages f e (inr b) =
+    inr (breach Basic meaning link (first_handed Basic meaning link world) world stages f e b)
+
+pub opt_evidence : (meaning : Meaning) (link : Link) (world : World) (stages : List MortalWorldStage)
+    (f : IsMortalWorldLife Opt meaning link world stages) (e : WorldEnds Opt meaning link world stages f)
+    → HasOptWorldEvidence meaning link (first_handed Opt meaning link world) world (ended Opt meaning link world stages f e)
+    (life Opt meaning link world stages f e)
+    → HasOptMortalWorldEvidence meaning link (first_handed Opt meaning link world) world stages f
+opt_evidence meaning link world stages f e (inl clash) =
+    let stages' = ended Opt meaning link world stages f e in
+    let life' = life Opt meaning link world stages f e in
+    let at = instance_of Opt meaning link (world 0) in
+    inl (subst (λ (batches : List Batch). HasClash at (start_message Opt meaning.id ∷ mortal_opt_messages_from meaning link world stages f)
+    (mortal_world_values meaning link world stages f) batches) (batches_same Opt meaning link world stages f e)
+    (subst (λ (values : List (List ℕ)). HasClash at (start_message Opt meaning.id ∷ mortal_opt_messages_from meaning link world stages f)
+    values (world_batches Opt meaning link world stages' life')) (values_same meaning link world stages f e)
+    (subst (λ (messages : List (List ℕ)). HasClash at (start_message Opt meaning.id ∷ messages)
+    (world_values meaning link world stages' life') (world_batches Opt meaning link world stages' life'))
+    (opt_messages_same meaning link world stages f e) clash)))
+opt_evidence meaning link world stages f e (inr b) =
+    inr (breach Opt meaning link (first_handed Opt meaning link world) world stages f e b)
 
 pub one_or_evidence : MortalWorldsEnd → WorldIsOneOrEvidence → MortalWorldIsOneOrEvidence
 one_or_evidence end law meaning lawful link world stages f start =
     let e = end Basic meaning lawful link world stages f in
-    let begun = first_handed Basic meaning link world in
     elim (law meaning lawful link world (ended Basic meaning link world stages f e) (life Basic meaning link world stages f e) start) [
-      | inl one ↦ inl (one_of Basic meaning link begun world stages f e one)
-      | inr evidence ↦ inr (elim evidence [
-        | inl clash ↦ inl (subst (λ (messages : List (List ℕ)). HasClash (instance_of Basic meaning link (world 0))
-            (start_message Basic meaning.id ∷ messages) [] []) (messages_same meaning link world stages f e) clash)
-        | inr b ↦ inr (breach Basic meaning link begun world stages f e b)
-      ])
+      | inl one ↦ inl (one_of Basic meaning link (first_handed Basic meaning link world) world stages f e one)
+      | inr held ↦ inr (evidence meaning link world stages f e held)
     ]
 
 pub opt_one_or_evidence : MortalWorldsEnd → OptWorldIsOneOrEvidence → OptMortalWorldIsOneOrEvidence
 opt_one_or_evidence end law meaning lawful link world stages f start told =
     let e = end Opt meaning lawful link world stages f in
-    let begun = first_handed Opt meaning link world in
-    let stages' = ended Opt meaning link world stages f e in
-    let life' = life Opt meaning link world stages f e in
-    let at = instance_of Opt meaning link (world 0) in
-    elim (law meaning lawful link world stages' life' start (registers_told meaning link world stages f e told)) [
-      | inl one ↦ inl (one_of Opt meaning link begun world stages f e one)
-      | inr evidence ↦ inr (elim evidence [
-        | inl clash ↦ inl (subst (λ (batches : List Batch). HasClash at
-            (start_message Opt meaning.id ∷ mortal_opt_messages_from meaning link world stages f)
-            (mortal_world_values meaning link world stages f) batches) (batches_same meaning link world stages f e)
-            (subst (λ (values : List (List ℕ)). HasClash at
-            (start_message Opt meaning.id ∷ mortal_opt_messages_from meaning link world stages f) values
-            (world_batches Opt meaning link world stages' life')) (values_same meaning link world stages f e)
-            (subst (λ (messages : List (List ℕ)). HasClash at (start_message Opt meaning.id ∷ messages)
-            (world_values meaning link world stages' life') (world_batches Opt meaning link world stages' life'))
-            (opt_messages_same meaning link world stages f e) clash)))
-        | inr b ↦ inr (breach Opt meaning link begun world stages f e b)
-      ])
+    elim (law meaning lawful link world (ended Opt meaning link world stages f e) (life Opt meaning link world stages f e) start
+    (registers_told meaning link world stages f e told)) [
+      | inl one ↦ inl (one_of Opt meaning link (first_handed Opt meaning link world) world stages f e one)
+      | inr held ↦ inr (opt_evidence meaning link world stages f e held)
     ]
 
 pub promises : WorldsKeepPromises → MortalWorldsKeepPromises

@@ -55,5 +55,5 @@ HasOptMortalWorldEvidence meaning link handed world stages f =
     HasClash (instance_of Opt meaning link (world 0))
     (mortal_opt_world_messages meaning link world stages f)
     (mortal_world_values meaning link world stages f)
-    (mortal_world_batches meaning link world stages f)
+    (mortal_world_batches Opt meaning link world stages f)
     ⊎ HasMortalBreach Opt meaning link handed world stages f

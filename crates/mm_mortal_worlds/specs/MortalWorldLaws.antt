@@ -38,7 +38,7 @@ OptMortalWorldIsOne =
     IsOptWorldAtStart meaning link world → AreMortalRegistersTold stages →
     IsClear (mortal_opt_world_messages meaning link world stages f) →
     AreNoGuards link.barrier (mortal_world_values meaning link world stages f)
-    (mortal_world_batches meaning link world stages f) →
+    (mortal_world_batches Opt meaning link world stages f) →
     AreMortalHonest Opt meaning link (first_handed Opt meaning link world) world stages f →
     IsMortalWorldOne Opt meaning link (first_handed Opt meaning link world) world stages f
 

@@ -252,13 +252,14 @@ mortal_world_values meaning link world (stage ∷ stages) f =
     mortal_values_in meaning link (world stage.at) stage.part stage.after f.0
     ++ mortal_world_values meaning link (mortal_world_after world stage) stages f.1
 
-abbrev pub mortal_world_batches : (meaning : Meaning) (link : Link) (world : World)
-    (stages : List MortalWorldStage) → IsMortalWorldLife Opt meaning link world stages
-    → List Batch
-mortal_world_batches meaning link world [] f = []
-mortal_world_batches meaning link world (stage ∷ stages) f =
-    call_batches (mortal_calls_in Opt meaning link (world stage.at) stage.part stage.after f.0)
-    ++ mortal_world_batches meaning link (mortal_world_after world stage) stages f.1
+-- in either variant the batches that are asked where the module is
+abbrev pub mortal_world_batches : (variant : Variant) (meaning : Meaning) (link : Link)
+    (world : World) (stages : List MortalWorldStage)
+    → IsMortalWorldLife variant meaning link world stages → List Batch
+mortal_world_batches variant meaning link world [] f = []
+mortal_world_batches variant meaning link world (stage ∷ stages) f =
+    call_batches (mortal_calls_in variant meaning link (world stage.at) stage.part stage.after f.0)
+    ++ mortal_world_batches variant meaning link (mortal_world_after world stage) stages f.1
 
 -- a platform tells its register where a ticket was offered to it, as there
 abbrev pub MortalTellsRegister : MortalWorldPart → Standing → Type 0

@@ -3,7 +3,12 @@
 
 ghost use Rattle.mm_mortal_worlds.specs.MortalWorldLaws.{BasicMortalWorldIsOne, MortalWorldIsOneOrEvidence, MortalWorldsKeepPromises, OptMortalWorldIsOne, OptMortalWorldIsOneOrEvidence};
 ghost use Rattle.mm_mortal_worlds.specs.MortalWorlds.{MortalWorldsEnd};
+ghost use Rattle.mm_mortal_worlds.specs.OverStores.{BasicMortalWorldGoesOn, MortalWorldGoesOnOrEvidence, OptMortalWorldGoesOn, OptMortalWorldGoesOnOrEvidence};
 
+use mm_honest_worlds::{
+    basic_world_goes_on, opt_world_goes_on, opt_world_goes_on_or_evidence,
+    world_goes_on_or_evidence,
+};
 use mm_moments::mortal_lives_end;
 use mm_worlds::{
     basic_world_is_one, opt_world_is_one, opt_world_is_one_or_evidence, world_is_one_or_evidence,
@@ -57,4 +62,26 @@ pub fn mortal_worlds_keep_promises()
     ensures { MortalWorldsKeepPromises }
 {
     worlds_keep_promises();
+}
+
+/// Over honest stores each kill is resumed, on whichever platform the module is: a session goes on
+/// where the one list stands, what waits there is told first, and each line once.
+pub fn mortal_worlds_go_on()
+    ensures basic { BasicMortalWorldGoesOn }
+    ensures opt { OptMortalWorldGoesOn }
+{
+    mortal_worlds_end();
+    basic_world_goes_on();
+    opt_world_goes_on();
+}
+
+/// With no premise but the start, and what the stores show where the module is: it is gone on with
+/// so, or one holds evidence in hand.
+pub fn mortal_worlds_go_on_or_evidence()
+    ensures basic { MortalWorldGoesOnOrEvidence }
+    ensures opt { OptMortalWorldGoesOnOrEvidence }
+{
+    mortal_worlds_end();
+    world_goes_on_or_evidence();
+    opt_world_goes_on_or_evidence();
 }

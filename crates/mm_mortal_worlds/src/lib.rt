@@ -6,5 +6,6 @@ mod laws;
 
 pub use laws::{
     basic_mortal_world_is_one, mortal_world_is_one_or_evidence, mortal_worlds_end,
-    mortal_worlds_keep_promises, opt_mortal_world_is_one, opt_mortal_world_is_one_or_evidence,
+    mortal_worlds_go_on, mortal_worlds_go_on_or_evidence, mortal_worlds_keep_promises,
+    opt_mortal_world_is_one, opt_mortal_world_is_one_or_evidence,
 };
