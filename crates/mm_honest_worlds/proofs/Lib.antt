@@ -3,3 +3,4 @@ mod Arriving
 mod GoingOn
 mod Putting
 mod Crossings
+mod Stopping
