@@ -6,7 +6,7 @@ use Rattle.mm_digest.specs.declared.variant.Variant.{Variant}
 use Rattle.mm_digest.specs.declared.variant.Variant.TheVariants.{Basic, Opt}
 use Rattle.mm_platform.specs.Standing.{Standing}
 use Rattle.mm_module.specs.Batch.{Batch}
-use Rattle.mm_module.specs.Meaning.{IsLawful, Meaning}
+use Rattle.mm_module.specs.Meaning.{Meaning}
 use Rattle.mm_model.specs.Messages.{AreNoGuards, IsClear}
 use Rattle.mm_store.specs.StoreStanding.{StoreStanding}
 use Rattle.mm_sides.specs.BothSides.{Blank, Live, Retired, Role, Waiting}

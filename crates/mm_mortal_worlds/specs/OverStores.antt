@@ -11,7 +11,8 @@ use Rattle.mm_mortal_worlds.specs.MortalWorlds.{MortalWorldPartLeads, MortalWorl
 use Rattle.mm_mortal_worlds.specs.MortalWorlds.{mortal_opt_world_messages, mortal_world_after, mortal_world_batches, mortal_world_messages}
 use Rattle.mm_mortal_worlds.specs.MortalWorlds.{mortal_world_values}
 
--- where the module is, a program that is killed starts over what is known of the store, as any other
+-- Where the module is, a program that is killed starts over what is known of the store, as any
+-- other.
 abbrev pub DyingStartsOver : Role → HostStore → KilledProgram → Type 0
 DyingStartsOver Live store p = StartsOver store p.old.kept
 DyingStartsOver role store p = Unit {0}
@@ -64,15 +65,17 @@ MortalLeaveNoChance variant meaning link world (stage ∷ stages) f =
     MortalLeavesNoneByChance variant meaning link (world stage.at) stage.part stage.after f.0
     × MortalLeaveNoChance variant meaning link (mortal_world_after world stage) stages f.1
 
--- The world in which the killed programs ended is gone on with.
-pub record IsMortalWorldGoneOn (variant : Variant) (all others : List (List ℕ)) (asked : List Batch)
-    (meaning : Meaning) (link : Link) (kept : StoreStanding) (world : World)
-    (stages : List MortalWorldStage)
-    (f : IsMortalWorldLife variant meaning link world stages) : Type 0 where
-  pub ends : WorldEnds variant meaning link world stages f
-  pub gone : IsWorldGoneOn variant all others asked meaning link (stores_at_start kept) world
-      (ended_world_stages variant meaning link world stages f ends)
-      (ended_world_life variant meaning link world stages f ends)
+-- What is said of one world, as there.
+module _ (variant : Variant) (all others : List (List ℕ)) (asked : List Batch) (meaning : Meaning)
+    (link : Link) where
+  -- The world in which the killed programs ended is gone on with.
+  pub record IsMortalWorldGoneOn (kept : StoreStanding) (world : World)
+      (stages : List MortalWorldStage)
+      (f : IsMortalWorldLife variant meaning link world stages) : Type 0 where
+    pub ends : WorldEnds variant meaning link world stages f
+    pub gone : IsWorldGoneOn variant all others asked meaning link (stores_at_start kept) world
+        (ended_world_stages variant meaning link world stages f ends)
+        (ended_world_life variant meaning link world stages f ends)
 
 abbrev pub IsBasicGoneOn : (meaning : Meaning) (link : Link) (kept : StoreStanding) (world : World)
     (stages : List MortalWorldStage) → IsMortalWorldLife Basic meaning link world stages → Type 0
