@@ -127,35 +127,21 @@ same_counts at steps writes cycles faults = record { cell = refl; items = refl; 
 memory_same : (one other : Standing) → one.cell ≡ other.cell → one.plan ≡ other.plan → IsMemory other → IsMemory one
 memory_same one other cell plan m = record { untold = plan ∙ m.untold; whole = λ bytes e. m.whole bytes (sym cell ∙ e) }
 
+failed_by : (call : RawCall) (at new : Standing) → StandsSame new at → new.plan ≡ at.plan → IsMemory at → RawGoes call at new (Err Off)
+    → Fails call at
+failed_by call at new same plan m goes =
+    record { new = new; answer = Err Off; goes = goes; holds = memory_same new at same.cell plan m; same = same }
+
 fails : (call : RawCall) (at : Standing) → IsMemory at → Fails call at
-fails (ReadsRange from size) at m = record {
-  new = failed_call at;
-  answer = Err Off;
-  goes = (read_fails at, tt);
-  holds = memory_same (failed_call at) at refl refl m;
-  same = same_counts at _ _ _ _;
-}
-fails (WritesRange from bytes within) at m = record {
-  new = failed_call at;
-  answer = Err Off;
-  goes = write_fails from bytes at within m;
-  holds = memory_same (failed_call at) at refl refl m;
-  same = same_counts at _ _ _ _;
-}
-fails CyclesRaw at m = record {
-  new = record at { cycles = next_count at.cycles; faults = next_count at.faults };
-  answer = Err Off;
-  goes = cycle_fails at m.untold;
-  holds = memory_same (record at { cycles = next_count at.cycles; faults = next_count at.faults }) at refl refl m;
-  same = same_counts at _ _ _ _;
-}
-fails (StepsRegister act is) at m = record {
-  new = failed_standing act at;
-  answer = Err Off;
-  goes = (step_fails act at m.untold, tt);
-  holds = memory_same (failed_standing act at) at refl refl m;
-  same = same_counts at _ _ _ _;
-}
+fails (ReadsRange from size) at m =
+    failed_by (ReadsRange from size) at (failed_call at) (same_counts at _ _ _ _) refl m (read_fails at, tt)
+fails (WritesRange from bytes within) at m =
+    failed_by (WritesRange from bytes within) at (failed_call at) (same_counts at _ _ _ _) refl m (write_fails from bytes at within m)
+fails CyclesRaw at m =
+    failed_by CyclesRaw at (record at { cycles = next_count at.cycles; faults = next_count at.faults }) (same_counts at _ _ _ _) refl m
+    (cycle_fails at m.untold)
+fails (StepsRegister act is) at m =
+    failed_by (StepsRegister act is) at (failed_standing act at) (same_counts at _ _ _ _) refl m (step_fails act at m.untold, tt)
 
 -- the memory stays one
 put_size : (at : ℕ) (written all : List ℕ) → at + length written ≤ 209 → length all ≡ 209

@@ -5,14 +5,13 @@ use Rattle.std.specs.Prelude.{true, false}
 use Rattle.std.proofs.Common.{◌≡◌, ◌∙◌, ◌-◌, ◌^◌, ◌≤◌, ℕ, List, [], Bool, Option, None, Some, Result, Ok, Err, refl, sym, ap, subst, arith}
 use Rattle.mm_bytes.specs.Limits.{CountsFaults, next_count}
 use Rattle.mm_bytes.specs.declared.fault.Failed as device
-use Rattle.mm_platform.specs.Standing.{Standing, Act, PowerCycles, StepGoes}
-use Rattle.mm_platform.specs.declared.fault.StepFault.TheVariants.{Off}
+use Rattle.mm_platform.specs.Standing.{Standing}
 use Rattle.mm_store.specs.StoreStanding.{ReadsSlot, SyncsSlot, WritesSlot, LeavesInSlot, StoreStanding, UnsyncedSlots, unsynced_slots_with}
 use Rattle.mm_store.specs.StoreStanding.{unsynced_slots_with_mark, Slots}
 use Rattle.mm_store.specs.declared.fault.StoreFault.{StoreFault}
 use Rattle.mm_store.specs.declared.fault.StoreFault.TheVariants.{Failed, Memory}
 use Rattle.mm_pages.specs.PageStanding.{PageStanding, store_standing_on}
-use Rattle.mm_killed.specs.DeviceCalls.{Cycles, Place, Reads, Steps, Writes, CallLeaves, TellsSame}
+use Rattle.mm_killed.specs.DeviceCalls.{Place, TellsSame}
 use Rattle.mm_killed.proofs.Above.{CallAnswers, CallFails, MayFail, killed_stops, put_back_told}
 use Rattle.mm_killed_devices.specs.Devices.{CountsAlone, PageReadsStop, PageWritesStop, KillsReachCalls, LeavesStanding, LeavesStore}
 use Rattle.mm_killed_devices.specs.PageCalls.{LengthOf, OfChange, OfLength, OfPage, Page, PageAnswer, PageCall, PageGoes, PageMayLeave}
@@ -57,67 +56,46 @@ failed_device old page_reads page_writes length_writes renewals unsynced doubtfu
   doubtful = doubtful;
 }
 
-failed_same : (at : PageStanding) (page_reads page_writes length_writes renewals : ℕ) (unsynced doubtful : Option UnsyncedSlots)
-    → unsynced ≡ at.unsynced → PagesSame (failed_device at page_reads page_writes length_writes renewals unsynced doubtful) at
-failed_same at page_reads page_writes length_writes renewals unsynced doubtful e = record { slots = refl; is_honest = refl; unsynced = e }
-
-failed_alone : (at : PageStanding) (page_reads page_writes length_writes renewals : ℕ) (unsynced doubtful : Option UnsyncedSlots)
-    → unsynced ≡ None → CountsAlone (failed_device at page_reads page_writes length_writes renewals unsynced doubtful)
-failed_alone at page_reads page_writes length_writes renewals unsynced doubtful e = record { untold = e; counts = next_few at.faults }
-
 abbrev Fails : PageCall → PageStanding → Type 0
 Fails call at = CallFails PageGoes PageMayLeave CountsAlone PagesSame call at
 
+failed_by : (call : PageCall) (at : PageStanding) (page_reads page_writes length_writes renewals : ℕ)
+    (unsynced doubtful : Option UnsyncedSlots) (answer : PageAnswer) → CountsAlone at → unsynced ≡ None
+    → PageGoes call at (failed_device at page_reads page_writes length_writes renewals unsynced doubtful) answer → Fails call at
+failed_by call at page_reads page_writes length_writes renewals unsynced doubtful answer m none goes = record {
+  new = failed_device at page_reads page_writes length_writes renewals unsynced doubtful;
+  answer = answer;
+  goes = goes;
+  holds = record { untold = none; counts = next_few at.faults };
+  same = record { slots = refl; is_honest = refl; unsynced = none ∙ sym m.untold };
+}
+
 fails : (call : PageCall) (at : PageStanding) → CountsAlone at → Fails call at
-fails (LengthOf slot) at m = record {
-  new = failed_device at at.page_reads at.page_writes at.length_writes at.renewals at.unsynced at.doubtful;
-  answer = OfLength (Err fault);
-  goes = record { same = refl; counted_faults = counts at.faults m.counts; gives = tt };
-  holds = failed_alone at _ _ _ _ _ _ m.untold;
-  same = failed_same at _ _ _ _ _ _ refl;
-}
-fails (Page slot page) at m = record {
-  new = failed_device at (next_count at.page_reads) at.page_writes at.length_writes at.renewals at.unsynced at.doubtful;
-  answer = OfPage [] (Err fault);
-  goes = record { same = refl; counted_faults = counts at.faults m.counts; gives = tt };
-  holds = failed_alone at _ _ _ _ _ _ m.untold;
-  same = failed_same at _ _ _ _ _ _ refl;
-}
+fails (LengthOf slot) at m =
+    failed_by (LengthOf slot) at at.page_reads at.page_writes at.length_writes at.renewals at.unsynced at.doubtful (OfLength (Err fault)) m
+    m.untold (record { same = refl; counted_faults = counts at.faults m.counts; gives = tt })
+fails (Page slot page) at m =
+    failed_by (Page slot page) at (next_count at.page_reads) at.page_writes at.length_writes at.renewals at.unsynced at.doubtful
+    (OfPage [] (Err fault)) m m.untold (record { same = refl; counted_faults = counts at.faults m.counts; gives = tt })
 fails (WritesPageOf slot page bytes) at m =
-    let marks : unsynced_slots_with_mark slot true at.unsynced ≡ None = untold slot true at.unsynced m.untold in record {
-      new = failed_device at at.page_reads (next_count at.page_writes) at.length_writes at.renewals
-          (unsynced_slots_with_mark slot true at.unsynced) (unsynced_slots_with_mark slot true at.doubtful);
-      answer = OfChange (Err fault);
-      goes = record { same = refl; counted_faults = counts at.faults m.counts; leaves = λ honest. put_back_told at.slots slot };
-      holds = failed_alone at _ _ _ _ _ _ marks;
-      same = failed_same at _ _ _ _ _ _ (marks ∙ sym m.untold);
-    }
+    failed_by (WritesPageOf slot page bytes) at at.page_reads (next_count at.page_writes) at.length_writes at.renewals
+    (unsynced_slots_with_mark slot true at.unsynced) (unsynced_slots_with_mark slot true at.doubtful) (OfChange (Err fault)) m
+    (untold slot true at.unsynced m.untold)
+    (record { same = refl; counted_faults = counts at.faults m.counts; leaves = λ honest. put_back_told at.slots slot })
 fails (SetsLengthOf slot size) at m =
-    let marks : unsynced_slots_with_mark slot true at.unsynced ≡ None = untold slot true at.unsynced m.untold in record {
-      new = failed_device at at.page_reads at.page_writes (next_count at.length_writes) at.renewals
-          (unsynced_slots_with_mark slot true at.unsynced) (unsynced_slots_with_mark slot true at.doubtful);
-      answer = OfChange (Err fault);
-      goes = record { same = refl; counted_faults = counts at.faults m.counts; leaves = λ honest. put_back_told at.slots slot };
-      holds = failed_alone at _ _ _ _ _ _ marks;
-      same = failed_same at _ _ _ _ _ _ (marks ∙ sym m.untold);
-    }
+    failed_by (SetsLengthOf slot size) at at.page_reads at.page_writes (next_count at.length_writes) at.renewals
+    (unsynced_slots_with_mark slot true at.unsynced) (unsynced_slots_with_mark slot true at.doubtful) (OfChange (Err fault)) m
+    (untold slot true at.unsynced m.untold)
+    (record { same = refl; counted_faults = counts at.faults m.counts; leaves = λ honest. put_back_told at.slots slot })
 fails (Syncs slot) at m =
-    let marks : unsynced_slots_with_mark slot true at.unsynced ≡ None = untold slot true at.unsynced m.untold in record {
-      new = failed_device at at.page_reads at.page_writes at.length_writes at.renewals
-          (unsynced_slots_with_mark slot true at.unsynced) (unsynced_slots_with_mark slot true at.doubtful);
-      answer = OfChange (Err fault);
-      goes = record { same = refl; counted_faults = counts at.faults m.counts; leaves = λ honest. put_back_told at.slots slot };
-      holds = failed_alone at _ _ _ _ _ _ marks;
-      same = failed_same at _ _ _ _ _ _ (marks ∙ sym m.untold);
-    }
-fails (Renews slot) at m = record {
-  new = failed_device at at.page_reads at.page_writes at.length_writes (next_count at.renewals) at.unsynced
-      (unsynced_slots_with_mark slot true at.doubtful);
-  answer = OfChange (Err fault);
-  goes = record { same = refl; counted_faults = counts at.faults m.counts };
-  holds = failed_alone at _ _ _ _ _ _ m.untold;
-  same = failed_same at _ _ _ _ _ _ refl;
-}
+    failed_by (Syncs slot) at at.page_reads at.page_writes at.length_writes at.renewals
+    (unsynced_slots_with_mark slot true at.unsynced) (unsynced_slots_with_mark slot true at.doubtful) (OfChange (Err fault)) m
+    (untold slot true at.unsynced m.untold)
+    (record { same = refl; counted_faults = counts at.faults m.counts; leaves = λ honest. put_back_told at.slots slot })
+fails (Renews slot) at m =
+    failed_by (Renews slot) at at.page_reads at.page_writes at.length_writes (next_count at.renewals) at.unsynced
+    (unsynced_slots_with_mark slot true at.doubtful) (OfChange (Err fault)) m m.untold
+    (record { same = refl; counted_faults = counts at.faults m.counts })
 
 -- the device counts alone behind each call
 counted : {T : Type 0} (before now : ℕ) (result : Result T device.Failed) → before ≤ 2 ^ 64 - 1 → CountsFaults before now result
@@ -125,34 +103,22 @@ counted : {T : Type 0} (before now : ℕ) (result : Result T device.Failed) → 
 counted before now (Ok it) few c = subst (λ (n : ℕ). n ≤ 2 ^ 64 - 1) (sym c.kept) few
 counted before now (Err why) few c = subst (λ (n : ℕ). n ≤ 2 ^ 64 - 1) (sym c.failed) (next_few before)
 
-marked : (slot : ℕ) (mark : Bool) (old new : Option UnsyncedSlots) → old ≡ None → new ≡ unsynced_slots_with_mark slot mark old → new ≡ None
-marked slot mark old new none e = e ∙ untold slot mark old none
+alone : {T : Type 0} (old new left : PageStanding) (said : Result T device.Failed) → CountsAlone old → new ≡ left
+    → left.unsynced ≡ None → CountsFaults old.faults new.faults said → CountsAlone new
+alone old new left said m same none c = record {
+  untold = ap (λ (p : PageStanding). p.unsynced) same ∙ none;
+  counts = counted old.faults new.faults said m.counts c;
+}
 
 stays : (call : PageCall) (old new : PageStanding) (answer : PageAnswer) → CountsAlone old → PageGoes call old new answer → CountsAlone new
-stays (LengthOf slot) old new (OfLength said) m g = record {
-  untold = ap (λ (p : PageStanding). p.unsynced) g.same ∙ m.untold;
-  counts = counted old.faults new.faults said m.counts g.counted_faults;
-}
-stays (Page slot page) old new (OfPage bytes said) m g = record {
-  untold = ap (λ (p : PageStanding). p.unsynced) g.same ∙ m.untold;
-  counts = counted old.faults new.faults said m.counts g.counted_faults;
-}
-stays (WritesPageOf slot page bytes) old new (OfChange said) m g = record {
-  untold = marked slot _ old.unsynced new.unsynced m.untold (ap (λ (p : PageStanding). p.unsynced) g.same);
-  counts = counted old.faults new.faults said m.counts g.counted_faults;
-}
-stays (SetsLengthOf slot size) old new (OfChange said) m g = record {
-  untold = marked slot _ old.unsynced new.unsynced m.untold (ap (λ (p : PageStanding). p.unsynced) g.same);
-  counts = counted old.faults new.faults said m.counts g.counted_faults;
-}
-stays (Syncs slot) old new (OfChange said) m g = record {
-  untold = marked slot _ old.unsynced new.unsynced m.untold (ap (λ (p : PageStanding). p.unsynced) g.same);
-  counts = counted old.faults new.faults said m.counts g.counted_faults;
-}
-stays (Renews slot) old new (OfChange said) m g = record {
-  untold = ap (λ (p : PageStanding). p.unsynced) g.same ∙ m.untold;
-  counts = counted old.faults new.faults said m.counts g.counted_faults;
-}
+stays (LengthOf slot) old new (OfLength said) m g = alone old new _ said m g.same m.untold g.counted_faults
+stays (Page slot page) old new (OfPage bytes said) m g = alone old new _ said m g.same m.untold g.counted_faults
+stays (WritesPageOf slot page bytes) old new (OfChange said) m g =
+    alone old new _ said m g.same (untold slot _ old.unsynced m.untold) g.counted_faults
+stays (SetsLengthOf slot size) old new (OfChange said) m g =
+    alone old new _ said m g.same (untold slot _ old.unsynced m.untold) g.counted_faults
+stays (Syncs slot) old new (OfChange said) m g = alone old new _ said m g.same (untold slot _ old.unsynced m.untold) g.counted_faults
+stays (Renews slot) old new (OfChange said) m g = alone old new _ said m g.same m.untold g.counted_faults
 stays call old new answer m g = absurd g
 
 leaves : (call : PageCall) (old left : PageStanding) → PageMayLeave call old left
@@ -261,43 +227,26 @@ kept_same left l = record {
   received = refl;
 }
 
-steps_left : (at left : Place) (act : Act) → LeavesStanding (λ told. StepGoes act at.standing told (Some Off)) left.standing
-    → left ≡ record at { standing = left.standing } → CallLeaves (Steps act) at left
-steps_left at left act l e = record {
-  told = record left { standing = l.told };
-  may = (ap (λ (p : Place). record p { standing = l.told }) e, l.may);
-  same = standing_same left l;
-}
-
-cycles_left : (at left : Place) → LeavesStanding (λ told. PowerCycles at.standing told (Some Off)) left.standing
-    → left ≡ record at { standing = left.standing } → CallLeaves Cycles at left
-cycles_left at left l e = record {
-  told = record left { standing = l.told };
-  may = (ap (λ (p : Place). record p { standing = l.told }) e, l.may);
-  same = standing_same left l;
-}
-
-reads_left : (at left : Place) (slot : ℕ) → LeavesStore (λ told. ReadsSlot slot at.kept told (Err Failed)) left.kept
-    → left ≡ record at { kept = left.kept } → CallLeaves (Reads slot) at left
-reads_left at left slot l e = record {
-  told = record left { kept = l.told };
-  may = (ap (λ (p : Place). record p { kept = l.told }) e, l.may);
-  same = kept_same left l;
-}
-
-writes_left : (at left : Place) (slot : ℕ) (bytes : List ℕ)
-    → LeavesStore (λ told. WritesSlot slot bytes at.kept told (Err Failed)) left.kept
-    → left ≡ record at { kept = left.kept } → CallLeaves (Writes slot bytes) at left
-writes_left at left slot bytes l e = record {
-  told = record left { kept = l.told };
-  may = (ap (λ (p : Place). record p { kept = l.told }) e, l.may);
-  same = kept_same left l;
-}
-
 pub kills_reach : KillsReachCalls
 kills_reach at left = record {
-  steps = λ act l e. steps_left at left act l e;
-  cycles = λ l e. cycles_left at left l e;
-  reads = λ slot l e. reads_left at left slot l e;
-  writes = λ slot bytes l e. writes_left at left slot bytes l e;
+  steps = λ act l e. record {
+    told = record left { standing = l.told };
+    may = (ap (λ (p : Place). record p { standing = l.told }) e, l.may);
+    same = standing_same left l;
+  };
+  cycles = λ l e. record {
+    told = record left { standing = l.told };
+    may = (ap (λ (p : Place). record p { standing = l.told }) e, l.may);
+    same = standing_same left l;
+  };
+  reads = λ slot l e. record {
+    told = record left { kept = l.told };
+    may = (ap (λ (p : Place). record p { kept = l.told }) e, l.may);
+    same = kept_same left l;
+  };
+  writes = λ slot bytes l e. record {
+    told = record left { kept = l.told };
+    may = (ap (λ (p : Place). record p { kept = l.told }) e, l.may);
+    same = kept_same left l;
+  };
 }

@@ -66,7 +66,7 @@ module _ (variant : Variant) (meaning : Meaning) (link : Link) where
 
   dies_by_no_chance : (role : Role) (old new : Standing) (p : KilledProgram)
       (k : MortalWorldPartLeads variant meaning link old (Dies p) new) (e : WorldPartEnds variant meaning link old (Dies p) new k)
-      → DyingLeavesNoChance role variant meaning old p new link k → LeavesNoChanceAt role variant meaning old e.ended new e.leads
+      → DyingLeavesNoChance variant meaning link role old p new k → LeavesNoChanceAt role variant meaning old e.ended new e.leads
   dies_by_no_chance Live old new p k e none = e.chance none
   dies_by_no_chance Blank old new p k e none = tt
   dies_by_no_chance (Waiting nonce) old new p k e none = tt

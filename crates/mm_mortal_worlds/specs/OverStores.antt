@@ -42,28 +42,25 @@ AreMortalOverStores stores world (stage ∷ stages) =
 
 -- Where the module is and a kill was in a write of a slot, or the store failed, what that left
 -- isn't by chance a record of a later position than it was to have.
-abbrev pub DyingLeavesNoChance : (role : Role) (variant : Variant) (meaning : Meaning)
-    (old : Standing) (p : KilledProgram) (new : Standing) (link : Link)
-    → MortalWorldPartLeads variant meaning link old (Dies p) new → Type 0
-DyingLeavesNoChance Live variant meaning old p new link k =
-    MortalLeavesNoChance variant meaning old (KilledPart p) new k
-DyingLeavesNoChance role variant meaning old p new link k = Unit {0}
+module _ (variant : Variant) (meaning : Meaning) (link : Link) where
+  abbrev pub DyingLeavesNoChance : Role → (old : Standing) (p : KilledProgram) (new : Standing)
+      → MortalWorldPartLeads variant meaning link old (Dies p) new → Type 0
+  DyingLeavesNoChance Live old p new k =
+      MortalLeavesNoChance variant meaning old (KilledPart p) new k
+  DyingLeavesNoChance role old p new k = Unit {0}
 
-abbrev pub MortalLeavesNoneByChance : (variant : Variant) (meaning : Meaning) (link : Link)
-    (old : Standing) (part : MortalWorldPart) (new : Standing)
-    → MortalWorldPartLeads variant meaning link old part new → Type 0
-MortalLeavesNoneByChance variant meaning link old (Happens part) new f =
-    LeavesNoneByChance variant meaning link old part new f
-MortalLeavesNoneByChance variant meaning link old (Dies p) new k =
-    DyingLeavesNoChance (role_of old) variant meaning old p new link k
+  abbrev pub MortalLeavesNoneByChance : (old : Standing) (part : MortalWorldPart) (new : Standing)
+      → MortalWorldPartLeads variant meaning link old part new → Type 0
+  MortalLeavesNoneByChance old (Happens part) new f =
+      LeavesNoneByChance variant meaning link old part new f
+  MortalLeavesNoneByChance old (Dies p) new k = DyingLeavesNoChance (role_of old) old p new k
 
-abbrev pub MortalLeaveNoChance : (variant : Variant) (meaning : Meaning) (link : Link)
-    (world : World) (stages : List MortalWorldStage)
-    → IsMortalWorldLife variant meaning link world stages → Type 0
-MortalLeaveNoChance variant meaning link world [] f = Unit {0}
-MortalLeaveNoChance variant meaning link world (stage ∷ stages) f =
-    MortalLeavesNoneByChance variant meaning link (world stage.at) stage.part stage.after f.0
-    × MortalLeaveNoChance variant meaning link (mortal_world_after world stage) stages f.1
+  abbrev pub MortalLeaveNoChance : (world : World) (stages : List MortalWorldStage)
+      → IsMortalWorldLife variant meaning link world stages → Type 0
+  MortalLeaveNoChance world [] f = Unit {0}
+  MortalLeaveNoChance world (stage ∷ stages) f =
+      MortalLeavesNoneByChance (world stage.at) stage.part stage.after f.0
+      × MortalLeaveNoChance (mortal_world_after world stage) stages f.1
 
 -- What is said of one world, as there.
 module _ (variant : Variant) (all others : List (List ℕ)) (asked : List Batch) (meaning : Meaning)

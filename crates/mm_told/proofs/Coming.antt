@@ -1,6 +1,6 @@
 -- What a call tells that comes to this, and a checkpoint. With it: a checkpoint that the machine
 -- made on a platform is a whole checkpoint.
-use Rattle.std.specs.Prelude.{Some, Result, Ok, Err, IfOk}
+use Rattle.std.specs.Prelude.{Some, Result, Ok, Err}
 use Rattle.std.proofs.Common.{◌≡◌, ◌∙◌, ◌+◌, ℕ, suc, length, length-append, zero-add, ap, arith, Bool, true, false, List, [], ◌∷◌, ◌++◌}
 use Rattle.std.proofs.Common.{refl, sym, subst, inl, inr}
 use Rattle.mm_digest.specs.declared.variant.Variant.{Variant}
@@ -15,7 +15,7 @@ use Rattle.mm_machine.specs.declared.call.OpResult.{OpResult}
 use Rattle.mm_machine.specs.declared.call.OpResult.TheVariants as ended
 use Rattle.mm_machine.specs.declared.call.OpStage.{OpStage}
 use Rattle.mm_machine.specs.declared.call.OpStage.TheVariants.{Begun}
-use Rattle.mm_model.specs.Moves.{IsFit, is_long}
+use Rattle.mm_model.specs.Moves.{is_long}
 use Rattle.mm_model.specs.declared.answer.BatchAnswer.{BatchAnswer}
 use Rattle.mm_model.specs.declared.refusal.Refusal.{Refusal}
 use Rattle.mm_model.specs.declared.refusal.Refusal.TheVariants.{Long, Memory}
@@ -172,101 +172,6 @@ module _ (variant : Variant) (meaning : Meaning) (offer : List ℕ) (b : Batch) 
           (determined variant meaning offer b) Begun front a e.end m.makes e.ends))
       over front a given m (inr e) = let no = m.short in let yes = e.long in absurd (cc)
 
-  module _ (host : Host) (steps : List MadeStep) where
-    within : IsLawful meaning → (end : OpResult BatchAnswer Refusal) (given : Result BatchAnswer Refusal)
-        → StepsReachEnd (ask_operation variant meaning offer b) Begun steps end → given ≡ result_of (end_of_machine end)
-        → IsWithinRoom meaning (outcome.Ended given)
-    within lawful end (Ok answer) c e = answer_small meaning b lawful variant offer steps end answer c (sym e)
-    within lawful end (Err why) c e = tt
-
-    -- what is told, with the rest of what is promised
-    told_so : (told : StepsOutcome (Result BatchAnswer Refusal)) → TellsOutcome (ask_protocol variant meaning offer b)
-        (λ given. given) steps told
-        → IsAskOnHost variant meaning offer b host steps told → IsWithinRoom meaning told
-        → ToldBatchPromise variant meaning host steps offer b told
-    told_so (outcome.Ended given) t a within =
-        record { tells = t; asked = a; fits = λ same differs. absurd (cc); few = λ step next. absurd (cc); room = within }
-    told_so (outcome.Next one) t a within = record {
-      tells = t;
-      asked = a;
-      fits = λ same differs. absurd (cc);
-      few = λ step next. few_asked meaning offer b variant steps (act_of one) t.makes;
-      room = tt;
-    }
-    told_so outcome.Differs t a within =
-        record { tells = t; asked = a; fits = λ same differs. as_told steps same t; few = λ step next. absurd (cc); room = tt }
-    told_so outcome.Memory t a within =
-        record { tells = t; asked = a; fits = λ same differs. absurd (cc); few = λ step next. absurd (cc); room = tt }
-
-    module _ (lawful : IsLawful meaning) (h : IsHostOf steps host) where
-      -- by what it comes to
-      module _ (short : is_long b ≡ false) where
-        over_so : (end : OpResult BatchAnswer Refusal) (given : Result BatchAnswer Refusal)
-            → StepsReachEnd (ask_operation variant meaning offer b) Begun steps end → given
-            ≡ result_of (end_of_machine end)
-            → ToldBatchPromise variant meaning host steps offer b (outcome.Ended given)
-        over_so end given c e =
-            let asked : AskPromise (ask_call variant) meaning (first_standing host steps) (bare_standing (host.stood 0)) offer
-            b given =
-            rw e (asked_whole meaning offer b (first_standing host steps) (bare_standing (host.stood 0))
-            variant end lawful short
-            (finishes (ask_operation variant meaning offer b) host.stood Begun steps end c h.are_made)) in
-            told_so (outcome.Ended given) (inl (record { short = short; end = end; ends = c; gives = e })) asked
-            (within lawful end given c e)
-
-        before_so : (lacking : Bool) (front rest : List MadeStep) (it : MadeStep) (end : OpResult BatchAnswer Refusal)
-            → steps ≡ front ++ it ∷ rest → StepsReachEnd (ask_operation variant meaning offer b) Begun front end
-            → wants_memory (result_of (end_of_machine end)) ≡ lacking
-            → ToldBatchPromise variant meaning host steps offer b (outcome_if_over lacking)
-        before_so false front rest it end are ends e =
-            told_so outcome.Differs (record {
-              front = front;
-              it = it;
-              rest = rest;
-              are = are;
-              other = inr (record {
-                given = result_of (end_of_machine end);
-                gives = inl (record { short = short; end = end; ends = ends; gives = refl });
-                lacks = e;
-              });
-            }) tt tt
-        before_so true front rest it end are ends e =
-            told_so outcome.Memory (record {
-              front = front;
-              rest = it ∷ rest;
-              are = are;
-              over = record {
-                given = result_of (end_of_machine end);
-                gives = inl (record { short = short; end = end; ends = ends; gives = refl });
-                lacks = e;
-              };
-            }) (lacks_on_host host steps front (it ∷ rest) end lawful h short are ends e) tt
-
-        pub asks : (told : CallProgress BatchAnswer Refusal) → StepsComeTo (ask_operation variant meaning offer b) Begun steps told
-            → ToldBatchPromise variant meaning host steps offer b (told_outcome told)
-        asks (came.Next step) c =
-            (told_so (outcome.Next step) (record { short = short; makes = c })
-            (asked_whole meaning offer b (first_standing host steps) (bare_standing (host.missed 0 (act_of step))) variant
-            (ended.Broken Off (commits_at (ask_operation variant meaning offer b) c.stage)) lawful short
-            (breaks (ask_operation variant meaning offer b) host.stood Begun steps c.stage
-            (host.missed 0 (act_of step)) c.stands
-            h.are_made (missed_at host step c.stage c.next))) tt)
-        asks (came.Over end) c = over_so end (result_of (end_of_machine end)) c refl
-        asks (came.Before end) c =
-            before_so (wants_memory (result_of (end_of_machine end))) c.front c.rest c.it end c.are c.ends refl
-        asks came.Elsewhere c =
-            (told_so outcome.Differs (record {
-              front = c.front;
-              it = c.it;
-              rest = c.rest;
-              are = c.are;
-              other = inl (record {
-                act = machine.act_of c.stage;
-                next = record { short = short; makes = record { stage = c.stage; stands = c.stands; next = refl } };
-                other = c.other;
-              });
-            }) tt tt)
-
   -- what is told by the steps is the call on each platform on which they were made
   pub on_host : (host : Host) (steps : List MadeStep) (told : StepsOutcome (Result BatchAnswer Refusal)) → IsLawful meaning
       → IsHostOf steps host → TellsOutcome (ask_protocol variant meaning offer b) (λ given. given) steps told
@@ -293,20 +198,85 @@ module _ (variant : Variant) (meaning : Meaning) (offer : List ℕ) (b : Batch) 
           let no : wants_memory (Err Long) ≡ true =
           subst (λ (r : Result BatchAnswer Refusal). wants_memory r ≡ true) e.gives t.over.lacks in absurd (cc)
 
-  -- too long a request
-  pub long_so : (host : Host) (steps : List MadeStep) → is_long b ≡ true
-      → ToldBatchPromise variant meaning host steps offer b (long_outcome steps)
-  long_so host [] long =
-      told_so host [] (outcome.Ended (Err Long)) (inr (record { long = long; none = refl; gives = refl }))
-      (asked_long variant meaning (bare_standing (host.stood 0)) offer b long) tt
-  long_so host (it ∷ more) long =
-      told_so host (it ∷ more) outcome.Differs (record {
-        front = [];
+  module _ (host : Host) (steps : List MadeStep) (lawful : IsLawful meaning) (h : IsHostOf steps host) where
+    abbrev Tells : StepsOutcome (Result BatchAnswer Refusal) → Type 0
+    Tells told = TellsOutcome (ask_protocol variant meaning offer b) (λ given. given) steps told
+
+    within : (told : StepsOutcome (Result BatchAnswer Refusal)) → Tells told → IsWithinRoom meaning told
+    within (outcome.Ended (Ok answer)) (inl e) = answer_small meaning b lawful variant offer steps e.end answer e.ends (sym e.gives)
+    within (outcome.Ended (Ok answer)) (inr e) = let no : Ok answer ≡ Err Long = e.gives in absurd (cc)
+    within (outcome.Ended (Err why)) t = tt
+    within _ t = tt
+
+    -- what is told, with the rest of what is promised
+    told_so : (told : StepsOutcome (Result BatchAnswer Refusal)) → Tells told → ToldBatchPromise variant meaning host steps offer b told
+    told_so told t = record {
+      tells = t;
+      asked = on_host host steps told lawful h t;
+      fits = λ same differs. as_told steps same (subst Tells differs t);
+      few = λ step next. few_asked meaning offer b variant steps (act_of step) (subst Tells next t).makes;
+      room = within told t;
+    }
+
+    -- by what it comes to
+    module _ (short : is_long b ≡ false) where
+      before_so : (lacking : Bool) (front rest : List MadeStep) (it : MadeStep) (end : OpResult BatchAnswer Refusal)
+          → steps ≡ front ++ it ∷ rest → StepsReachEnd (ask_operation variant meaning offer b) Begun front end
+          → wants_memory (result_of (end_of_machine end)) ≡ lacking
+          → ToldBatchPromise variant meaning host steps offer b (outcome_if_over lacking)
+      before_so false front rest it end are ends e = told_so outcome.Differs (record {
+        front = front;
         it = it;
-        rest = more;
-        are = refl;
-        other = inr (record { given = Err Long; gives = inr (record { long = long; none = refl; gives = refl }); lacks = refl });
-      }) tt tt
+        rest = rest;
+        are = are;
+        other = inr (record {
+          given = result_of (end_of_machine end);
+          gives = inl (record { short = short; end = end; ends = ends; gives = refl });
+          lacks = e;
+        });
+      })
+      before_so true front rest it end are ends e = told_so outcome.Memory (record {
+        front = front;
+        rest = it ∷ rest;
+        are = are;
+        over = record {
+          given = result_of (end_of_machine end);
+          gives = inl (record { short = short; end = end; ends = ends; gives = refl });
+          lacks = e;
+        };
+      })
+
+      pub asks : (told : CallProgress BatchAnswer Refusal) → StepsComeTo (ask_operation variant meaning offer b) Begun steps told
+          → ToldBatchPromise variant meaning host steps offer b (told_outcome told)
+      asks (came.Next step) c = told_so (outcome.Next step) (record { short = short; makes = c })
+      asks (came.Over end) c =
+          told_so (outcome.Ended (result_of (end_of_machine end))) (inl (record { short = short; end = end; ends = c; gives = refl }))
+      asks (came.Before end) c =
+          before_so (wants_memory (result_of (end_of_machine end))) c.front c.rest c.it end c.are c.ends refl
+      asks came.Elsewhere c = told_so outcome.Differs (record {
+        front = c.front;
+        it = c.it;
+        rest = c.rest;
+        are = c.are;
+        other = inl (record {
+          act = machine.act_of c.stage;
+          next = record { short = short; makes = record { stage = c.stage; stands = c.stands; next = refl } };
+          other = c.other;
+        });
+      })
+
+  -- too long a request
+  pub long_so : (host : Host) (steps : List MadeStep) → IsLawful meaning → IsHostOf steps host → is_long b ≡ true
+      → ToldBatchPromise variant meaning host steps offer b (long_outcome steps)
+  long_so host [] lawful h long =
+      told_so host [] lawful h (outcome.Ended (Err Long)) (inr (record { long = long; none = refl; gives = refl }))
+  long_so host (it ∷ more) lawful h long = told_so host (it ∷ more) lawful h outcome.Differs (record {
+    front = [];
+    it = it;
+    rest = more;
+    are = refl;
+    other = inr (record { given = Err Long; gives = inr (record { long = long; none = refl; gives = refl }); lacks = refl });
+  })
 
 -- a checkpoint
 
@@ -320,55 +290,7 @@ closing_as_told steps =
     closing_lacks (ended.Refused why) l = l
     closing_lacks _ l = l
 
-module _ (host : Host) (steps : List MadeStep) (h : IsHostOf steps host) where
-  closing_differs : StepsDiffer checkpoint_protocol steps → ToldCheckpointPromise host steps outcome.Differs
-  closing_differs d =
-      record { tells = d; closed = tt; fits = λ same differs. closing_as_told steps same d; few = λ step next. absurd (cc) }
-
-  pub closes : (told : CallProgress Checkpointed CheckpointRefusal) → StepsComeTo closing_operation Begun steps told
-      → ToldCheckpointPromise host steps (closing_outcome told)
-  closes (came.Next step) c = record {
-    tells = c;
-    closed = closed_in (first_standing host steps) (bare_standing (host.missed 0 (act_of step)))
-        (ended.Broken Off (commits_at closing_operation c.stage))
-        (breaks closing_operation host.stood Begun steps c.stage (host.missed 0 (act_of step)) c.stands h.are_made
-        (missed_at host step c.stage c.next));
-    fits = λ same differs. absurd (cc);
-    few = λ one next. few_closing steps (act_of step) c;
-  }
-  closes (came.Over end) c = record {
-    tells = record { end = end; ends = c; gives = refl };
-    closed = closed_in (first_standing host steps) (bare_standing (host.stood 0)) end
-        (finishes closing_operation host.stood Begun steps end c h.are_made);
-    fits = λ same differs. absurd (cc);
-    few = λ step next. absurd (cc);
-  }
-  closes (came.Before end) c =
-      closing_differs (record {
-        front = c.front;
-        it = c.it;
-        rest = c.rest;
-        are = c.are;
-        other = inr (record {
-          given = result_of_end end;
-          gives = record { end = end; ends = c.ends; gives = refl };
-          lacks = refl;
-        });
-      })
-  closes came.Elsewhere c =
-      closing_differs (record {
-        front = c.front;
-        it = c.it;
-        rest = c.rest;
-        are = c.are;
-        other = inl (record {
-          act = machine.act_of c.stage;
-          next = record { stage = c.stage; stands = c.stands; next = refl };
-          other = c.other;
-        });
-      })
-
--- and of a checkpoint
+-- what is told of it is the checkpoint on each platform on which its steps were made
 pub closing_on_host : (host : Host) (steps : List MadeStep) (told : StepsOutcome (Result Checkpointed CheckpointRefusal))
     → IsHostOf steps host → TellsOutcome checkpoint_protocol (λ given. given) steps told
     → IsCheckpointOnHost host steps told
@@ -382,3 +304,43 @@ closing_on_host host steps (outcome.Next step) h c =
     (missed_at host step c.stage c.next))
 closing_on_host host steps outcome.Differs h t = tt
 closing_on_host host steps outcome.Memory h t = let lacks : false ≡ true = t.over.lacks in absurd (cc)
+
+module _ (host : Host) (steps : List MadeStep) (h : IsHostOf steps host) where
+  abbrev TellsClosing : StepsOutcome (Result Checkpointed CheckpointRefusal) → Type 0
+  TellsClosing told = TellsOutcome checkpoint_protocol (λ given. given) steps told
+
+  closing_so : (told : StepsOutcome (Result Checkpointed CheckpointRefusal)) → TellsClosing told
+      → ToldCheckpointPromise host steps told
+  closing_so told t = record {
+    tells = t;
+    closed = closing_on_host host steps told h t;
+    fits = λ same differs. closing_as_told steps same (subst TellsClosing differs t);
+    few = λ step next. few_closing steps (act_of step) (subst TellsClosing next t);
+  }
+
+  pub closes : (told : CallProgress Checkpointed CheckpointRefusal) → StepsComeTo closing_operation Begun steps told
+      → ToldCheckpointPromise host steps (closing_outcome told)
+  closes (came.Next step) c = closing_so (outcome.Next step) c
+  closes (came.Over end) c = closing_so (outcome.Ended (result_of_end end)) (record { end = end; ends = c; gives = refl })
+  closes (came.Before end) c = closing_so outcome.Differs (record {
+    front = c.front;
+    it = c.it;
+    rest = c.rest;
+    are = c.are;
+    other = inr (record {
+      given = result_of_end end;
+      gives = record { end = end; ends = c.ends; gives = refl };
+      lacks = refl;
+    });
+  })
+  closes came.Elsewhere c = closing_so outcome.Differs (record {
+    front = c.front;
+    it = c.it;
+    rest = c.rest;
+    are = c.are;
+    other = inl (record {
+      act = machine.act_of c.stage;
+      next = record { stage = c.stage; stands = c.stands; next = refl };
+      other = c.other;
+    });
+  })

@@ -1,10 +1,9 @@
 -- What an answer has that a call tells at its end: the size of its snapshot.
-use Rattle.std.proofs.Common.{◌≡◌, ◌+◌, ◌≤◌, ◌<◌, ℕ, Bool, true, false, IsTrue, List, [], ◌∷◌, length, refl, sym, subst, inl, inr, arith, length-append}
+use Rattle.std.proofs.Common.{◌≡◌, ◌+◌, ◌≤◌, ℕ, Bool, true, false, IsTrue, List, [], ◌∷◌, length, refl, sym, subst, inl, inr, arith, length-append}
 use Rattle.std.specs.Prelude.{Option, None, Some, Result, Ok, Err}
 use Rattle.std.proofs.lemmas.Bool.Decides.{nat_tests}
 use Rattle.mm_bytes.specs.Limits.{limit_of}
 use Rattle.mm_digest.specs.LengthLaws.{length-extended_digest_of, length-hmac_of, length-zero_bytes}
-use Rattle.mm_digest.specs.Messages.{extended_digest_of}
 use Rattle.mm_digest.specs.declared.variant.Variant.{Variant}
 use Rattle.mm_digest.specs.declared.variant.Variant.TheVariants.{Basic, Opt}
 use Rattle.mm_platform.specs.declared.fault.StepFault.{StepFault}

@@ -243,26 +243,14 @@ module _ {A : Type 0} (finds : List ℕ → Result (ReadyMove A) MoveRefusal) (f
 
   pub promised : (host : Host) (steps : List MadeStep) (came : StepsOutcome (Result A MoveRefusal)) → IsHostOf steps host
       → TellsOutcome (move_protocol finds) (λ given. given) steps came → ToldMovePromise finds host steps came
-  promised host steps (outcome.Ended given) h t = record {
-    tells = t;
-    moved = on_host host steps (outcome.Ended given) h t;
-    fits = λ same differs. absurd (cc);
-    few = λ step next. absurd (cc);
-  }
-  promised host steps (outcome.Next one) h t = record {
-    tells = t;
-    moved = on_host host steps (outcome.Next one) h t;
-    fits = λ same differs. absurd (cc);
-    few = λ step next. few_made steps (act_of one) t;
-  }
-  promised host steps outcome.Differs h t =
-      record { tells = t; moved = tt; fits = λ same differs. fits steps same t; few = λ step next. absurd (cc) }
-  promised host steps outcome.Memory h t = record {
-    tells = t;
-    moved = on_host host steps outcome.Memory h t;
-    fits = λ same differs. absurd (cc);
-    few = λ step next. absurd (cc);
-  }
+  promised host steps came h t =
+      let tells : StepsOutcome (Result A MoveRefusal) → Type 0 = λ o. TellsOutcome (move_protocol finds) (λ given. given) steps o in
+      record {
+        tells = t;
+        moved = on_host host steps came h t;
+        fits = λ same differs. fits steps same (subst tells differs t);
+        few = λ step next. few_made steps (act_of step) (subst tells next t);
+      }
 
 -- An invitation hands on no device's fault but its own steps'.
 

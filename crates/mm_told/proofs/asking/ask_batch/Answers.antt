@@ -7,7 +7,7 @@ pub returns-then-is_long : goal.returns-then-is_long
 returns-then-is_long g c =
     rw c.too_long.ensures
     (long_so c.args.variant (g.M.Module.meaning c.args.module.now) c.args.offer.now (batch_of c.args.batch) g.host c.args.made.now
-    (sym c.is_long.ensures ∙ c.if-is_long.true))
+    (g.met.M.Module.is_lawful c.args.module.now) c.requires.1 (sym c.is_long.ensures ∙ c.if-is_long.true))
 
 pub returns : goal.returns
 returns g c =
