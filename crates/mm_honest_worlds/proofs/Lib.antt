@@ -5,3 +5,4 @@ mod GoingOn
 mod AllStages
 mod Putting
 mod Crossings
+mod Stopping

@@ -1,4 +1,5 @@
 -- The words that the definitions of this crate take from the crates below.
+pub use Rattle.mm_bytes.specs.Limits.{last_position}
 pub use Rattle.mm_digest.specs.declared.variant.Variant.{Variant}
 pub use Rattle.mm_digest.specs.declared.variant.Variant.TheVariants.{Basic, Opt}
 pub use Rattle.mm_platform.specs.Standing.{Standing}
@@ -8,12 +9,18 @@ pub use Rattle.mm_model.specs.History.{History, requests_of, total_of}
 pub use Rattle.mm_model.specs.Chains.{Instance}
 pub use Rattle.mm_model.specs.Messages.{AreNoGuards, IsClear}
 pub use Rattle.mm_move.specs.declared.accepting.Accepted.{Accepted}
+pub use Rattle.mm_move.specs.declared.inviting.Invited.{Invited}
 pub use Rattle.mm_move.specs.declared.link.Link.{Link}
+pub use Rattle.mm_move.specs.declared.refusal.MoveRefusal.{MoveRefusal}
 pub use Rattle.mm_sides.specs.BothSides.{Live, Role}
-pub use Rattle.mm_store.specs.PendingRecord.{PendingRecord}
-pub use Rattle.mm_store.specs.StoreStanding.{Slots, slot_front, StoreStanding}
-pub use Rattle.mm_recovery.specs.FirstStart.{first_slots}
-pub use Rattle.mm_recovery.specs.HostStanding.{FitsHistory, IsSnapshotAt, IsWaiting}
+pub use Rattle.mm_store.specs.PendingRecord.{PendingRecord, pending_spelling}
+pub use Rattle.mm_store.specs.StoreStanding.{CountsFailures, Slots, slot_front, slot_in, StoreStanding}
+pub use Rattle.mm_store.specs.declared.fault.StoreFault.{StoreFault}
+pub use Rattle.mm_store.specs.declared.fault.StoreFault.TheVariants.{Failed}
+pub use Rattle.mm_store.specs.declared.store.TheConstants.{LONGEST_SLOT}
+pub use Rattle.mm_recovery.specs.FirstStart.{CountRisesIf, PutsAll, SlotPut, first_slots}
+pub use Rattle.mm_recovery.specs.HostStanding.{FitsHistory, HostStanding, IsSnapshotAt, IsWaiting}
+pub use Rattle.mm_host.specs.declared.fault.SessionFault.{SessionFault}
 pub use Rattle.mm_life.specs.Deeds.{Calls}
 pub use Rattle.mm_life.specs.HonestLife.{LeavesNoChance, PartGoesOn}
 pub use Rattle.mm_life.specs.Stages.{Does, Holds, LifePart, PartLeads}

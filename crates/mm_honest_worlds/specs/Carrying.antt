@@ -1,11 +1,73 @@
 -- A module that is carried from one platform to another, over two honest stores, with a session on
--- either side: the world that this is.
-use Rattle.std.specs.Prelude.{◌≡◌, ◌⊎◌, ℕ, true, List, [], ◌∷◌, Some, Ok}
-use Rattle.mm_honest_worlds.specs.Below.{Basic, Standing, Meaning, Link, Slots, StoreStanding, first_slots, KeepsStore, BothSites}
-use Rattle.mm_honest_worlds.specs.Below.{SiteStanding, accepted_at, invited_at, retired_at, session_at, site_standing, two_platforms}
-use Rattle.mm_honest_worlds.specs.Below.{HasWorldEvidence, instance_of, IsWorldAtStart, first_handed, IsWorldLife, WorldStage}
+-- either side: the world that this is. With it: what comes of a ticket on the platform that the
+-- module goes to; where the module was stopped on its way.
+use Rattle.std.specs.Prelude.{◌≡◌, ◌⊎◌, ◌<◌, ◌≤◌, ℕ, Bool, true, false, List, [], ◌∷◌, length, Option, None, Some, Result, Ok, Err}
+use Rattle.mm_honest_worlds.specs.Below.{last_position, Basic, Standing, Meaning, Accepted, Invited, Link, MoveRefusal, Slots, StoreStanding}
+use Rattle.mm_honest_worlds.specs.Below.{StoreFault, Failed, LONGEST_SLOT, CountRisesIf, first_slots, HostStanding, SessionFault, KeepsStore}
+use Rattle.mm_honest_worlds.specs.Below.{BothSites, SiteStanding, accepted_at, invited_at, retired_at, session_at, site_standing, two_platforms}
+use Rattle.mm_honest_worlds.specs.Below.{HasWorldEvidence, instance_of, IsWorldAtStart, first_handed, Accepts, IsWorldLife, WorldPartLeads}
+use Rattle.mm_honest_worlds.specs.Below.{WorldStage, world_at_end}
+use Rattle.mm_honest_worlds.specs.Arrivals.{EmptyingGoes, PuttingGoes}
 use Rattle.mm_honest_worlds.specs.Laws.{IsGoneOnFrom}
 use Rattle.mm_honest_worlds.specs.declared.carrying.Carried.{Carried}
+use Rattle.mm_honest_worlds.specs.declared.carrying.CarryingFault.{CarryingFault}
+use Rattle.mm_honest_worlds.specs.declared.carrying.CarryingFault.TheVariants.{Keeping, Moving, NoRoom}
+
+-- What comes of a ticket on the platform that the module goes to.
+
+-- there is a position for the next request, and the snapshot isn't longer than a slot
+pub record HasRoom (accepted : Accepted) : Type 0 where
+  pub position : accepted.position < last_position
+  pub snapshot : length accepted.snapshot ≤ LONGEST_SLOT
+
+abbrev pub LacksRoom : Accepted → Type 0
+LacksRoom accepted =
+    (last_position ≤ accepted.position) ⊎ (LONGEST_SLOT < length accepted.snapshot)
+
+-- Where there is room, what belongs to an acceptance is put, and the acceptance is answered.
+abbrev pub KeepingGoes : Accepted → List ℕ → StoreStanding → StoreStanding
+    → Result Accepted CarryingFault → Type 0
+KeepingGoes accepted request old new (Ok given) =
+    (given ≡ accepted) × HasRoom accepted × PuttingGoes accepted request old new (Ok tt)
+KeepingGoes accepted request old new (Err NoRoom) = LacksRoom accepted × (new ≡ old)
+KeepingGoes accepted request old new (Err (Keeping fault)) =
+    HasRoom accepted × PuttingGoes accepted request old new (Err fault)
+KeepingGoes accepted request old new (Err (Moving why)) = ⊥
+
+abbrev pub GoesAfterAccepting : List ℕ → Result Accepted MoveRefusal → StoreStanding
+    → StoreStanding → Result Accepted CarryingFault → Type 0
+GoesAfterAccepting request (Err why) old new result = (new ≡ old) × (result ≡ Err (Moving why))
+GoesAfterAccepting request (Ok accepted) old new result =
+    KeepingGoes accepted request old new result
+
+-- Where the retirement gave a ticket, the store's records are emptied; then the ticket is accepted,
+-- and there is what that answered; and it goes on by this. None was answered where it wasn't tried.
+abbrev pub TicketGoes : List ℕ → Result (List ℕ) MoveRefusal
+    → Option (Result Accepted MoveRefusal) → StoreStanding → StoreStanding
+    → Result Accepted CarryingFault → Type 0
+TicketGoes request (Err why) None old new result = (new ≡ old) × (result ≡ Err (Moving why))
+TicketGoes request (Err why) (Some answer) old new result = ⊥
+TicketGoes request (Ok ticket) None old new result =
+    (fault : StoreFault) × EmptyingGoes old new (Err fault) × (result ≡ Err (Keeping fault))
+TicketGoes request (Ok ticket) (Some answer) old new result =
+    (emptied : StoreStanding) × EmptyingGoes old emptied (Ok tt)
+    × GoesAfterAccepting request answer emptied new result
+
+-- what this does on the platform
+abbrev pub TicketLeads : Meaning → Link → Result (List ℕ) MoveRefusal
+    → Option (Result Accepted MoveRefusal) → Standing → Standing → Type 0
+TicketLeads meaning link (Ok ticket) (Some answer) old new =
+    WorldPartLeads Basic meaning link old (Accepts ticket answer) new
+TicketLeads meaning link given answer old new = new ≡ old
+
+pub record ArrivalGoes (meaning : Meaning) (link : Link) (request : List ℕ)
+    (given : Result (List ℕ) MoveRefusal) (old new : HostStanding)
+    (result : Result Accepted CarryingFault) : Type 0 where
+  pub answer : Option (Result Accepted MoveRefusal)
+  pub leads : TicketLeads meaning link given answer old.standing new.standing
+  pub goes : TicketGoes request given answer old.kept new.kept result
+
+-- The world that this is.
 
 -- a platform and its program, over what its store shows now
 abbrev pub site_over : StoreStanding → SiteStanding → SiteStanding
@@ -47,3 +109,52 @@ pub record CarriesOver (meaning : Meaning) (link : Link) (nonce key offer : List
       IsGoneOnFrom meaning link kept world made.stages leads
       ⊎ HasWorldEvidence Basic meaning link (first_handed Basic meaning link world) world
       made.stages leads)
+
+-- Where the module was stopped on its way.
+
+-- the stage of an acceptance, where one was tried
+abbrev pub acceptance_stages : Result (List ℕ) MoveRefusal → Option (Result Accepted MoveRefusal)
+    → Standing → List WorldStage
+acceptance_stages (Ok ticket) (Some answer) after = accepted_at 1 ticket answer after ∷ []
+acceptance_stages given answer after = []
+
+-- whether it is told that the second store failed
+abbrev pub is_second_store : CarryingFault → Bool
+is_second_store (Keeping Failed) = true
+is_second_store fault = false
+
+-- The stages so far are a world's life, at whose end the second platform stands as it does. Why it
+-- was stopped, and what the second store holds, is by what came of the ticket: the store's count
+-- rose exactly where it is told that it failed. No session was held there.
+pub record CarryingStops (meaning : Meaning) (link : Link) (nonce key offer request : List ℕ)
+    (old new : BothSites) (fault : CarryingFault) : Type 0 where
+  pub first : Result Unit SessionFault
+  pub served : Standing
+  pub invited : Result Invited MoveRefusal
+  pub waiting : Standing
+  pub given : Result (List ℕ) MoveRefusal
+  pub answer : Option (Result Accepted MoveRefusal)
+  pub stages : List WorldStage
+  pub are : stages ≡
+      session_at 0 old.first new.first first served
+      ∷ invited_at 1 nonce key invited waiting
+      ∷ retired_at 0 nonce offer given new.first.platform
+      ∷ acceptance_stages given answer new.second.platform
+  pub leads : IsWorldLife Basic meaning link
+      (two_platforms old.first.platform old.second.platform) stages
+  pub ends : world_at_end (two_platforms old.first.platform old.second.platform) stages 1
+      ≡ new.second.platform
+  pub goes : TicketGoes request given answer old.second.program.kept new.second.program.kept
+      (Err fault)
+  pub blamed : CountRisesIf (is_second_store fault) old.second.program.kept.faults
+      new.second.program.kept.faults
+  pub left : new.second.program.left ≡ old.second.program.left
+  pub received : new.second.program.received ≡ old.second.program.received
+
+-- it was carried, or stopped by this
+abbrev pub CarriesOrStops : Meaning → Link → (nonce key offer request : List ℕ)
+    → (old new : BothSites) → Result Carried CarryingFault → Type 0
+CarriesOrStops meaning link nonce key offer request old new (Ok carried) =
+    CarriesOver meaning link nonce key offer old new carried
+CarriesOrStops meaning link nonce key offer request old new (Err fault) =
+    CarryingStops meaning link nonce key offer request old new fault

@@ -1,17 +1,16 @@
 //! A caller: a module of Basic that is carried from one platform to another, over an honest store
 //! on each, with a session on either side.
 
-ghost use Rattle.std.specs.Prelude.{IfOk};
 ghost use Rattle.mm_base.specs.Input.{IsLineFront};
 ghost use Rattle.mm_bytes.specs.Limits.{longest_request};
+ghost use Rattle.mm_recovery.specs.HostStanding.{host_standing};
 ghost use Rattle.mm_worlds.specs.Journey.{both_sites, site_standing};
-ghost use Rattle.mm_honest_worlds.specs.Arrivals.{PutsArrival};
-ghost use Rattle.mm_honest_worlds.specs.Carrying.{CarriesOver};
+ghost use Rattle.mm_honest_worlds.specs.Carrying.{ArrivalGoes, CarriesOrStops, KeepingGoes};
 
 use crate::arrival::{empty_records, put_arrival};
 use crate::laws::world_goes_on_or_evidence;
 use mm_base::{Sink, Source};
-use mm_bytes::LAST_POSITION;
+use mm_bytes::{Bytes, LAST_POSITION};
 use mm_digest::Variant;
 use mm_host::{SessionFault, session};
 use mm_module::Module;
@@ -19,6 +18,7 @@ use mm_move::{Accepted, Invited, Link, MoveRefusal, accept, invite, retire};
 use mm_platform::Platform;
 use mm_store::{LONGEST_SLOT, Store, StoreFault};
 use std::alloc::Global;
+use thiserror::Error;
 
 /// What came of it, where the module arrived and its store was written.
 #[derive(Drop)]
@@ -30,20 +30,23 @@ pub struct Carried {
 }
 
 /// Why the module wasn't carried to the second session.
-#[derive(Drop)]
+#[derive(Clone, Copy, Debug, Error)]
 pub enum CarryingFault {
-    /// A retirement or an acceptance was refused.
+    /// The retirement or the acceptance was refused.
+    #[error(transparent)]
     Moving(MoveRefusal),
-    /// The second store failed.
+    /// The second store failed, or memory was wanting to write there.
+    #[error(transparent)]
     Keeping(StoreFault),
-    /// No position is left for a request, or no slot is as long as the snapshot.
+    /// No position is left for a request, or the snapshot is longer than a slot.
+    #[error("no position is left, or the snapshot is longer than a slot")]
     NoRoom,
 }
 
 /// A session on the first platform; the second one is invited; the first one is retired with this
 /// offer, and the ticket is accepted on the second. Before that its store's records are emptied;
 /// behind it the acceptance's snapshot and the record of this request are written, the first line
-/// that the session there tells.
+/// that the session there tells. A session or an invitation that fails stops nothing.
 pub fn carry_over<
     M: Module,
     P: Platform,
@@ -72,8 +75,8 @@ pub fn carry_over<
     second_out: &mut L,
 ) -> Result<Carried, CarryingFault>
     requires line { IsLineFront longest_request request.now }
-    ensures { IfOk result (λ carried. CarriesOver (M.meaning «module».now) link.now nonce.now
-        key.now offer.now
+    ensures { CarriesOrStops (M.meaning «module».now) link.now nonce.now key.now offer.now
+        request.now
         (both_sites
         (site_standing (P.standing first.old) (T.kept first_store.old) (S.left first_input.old)
         (K.received first_out.old))
@@ -83,7 +86,7 @@ pub fn carry_over<
         (site_standing (P.standing first.new) (T.kept first_store.new) (S.left first_input.new)
         (K.received first_out.new))
         (site_standing (Q.standing second.new) (U.kept second_store.new) (R.left second_input.new)
-        (L.received second_out.new))) carried) }
+        (L.received second_out.new))) result }
 {
     // A law, which does nothing: the clause rests on its contract.
     world_goes_on_or_evidence();
@@ -97,39 +100,59 @@ pub fn carry_over<
         first_out,
     );
     let invited = invite(second, link, Variant::Basic, module.id(), nonce, key);
-    match retire(alloc, module, Variant::Basic, first, link, nonce, offer) {
+    let given = retire(alloc, module, Variant::Basic, first, link, nonce, offer);
+    match arrive(alloc, module, link, given, request, second, second_store) {
+        Err(fault) => Err(fault),
+        Ok(accepted) => {
+            let again = session(
+                alloc,
+                Variant::Basic,
+                module,
+                second,
+                second_store,
+                second_input,
+                second_out,
+            );
+            Ok(Carried {
+                first: served,
+                invited,
+                accepted,
+                second: again,
+            })
+        }
+    }
+}
+
+// What comes of a ticket, where one was given: the store's records are emptied, it is accepted on
+// the platform, and what belongs to the acceptance is put into the store.
+fn arrive<M: Module, P: Platform, T: Store>(
+    alloc: Global,
+    module: &M,
+    link: &Link,
+    given: Result<Bytes, MoveRefusal>,
+    request: &[u8],
+    platform: &mut P,
+    store: &mut T,
+) -> Result<Accepted, CarryingFault>
+    requires line { IsLineFront longest_request request.now }
+    ensures { ArrivalGoes (M.meaning «module».now) link.now request.now given
+        (host_standing (P.standing platform.old) (T.kept store.old))
+        (host_standing (P.standing platform.new) (T.kept store.new)) result }
+{
+    match given {
         Err(refusal) => Err(CarryingFault::Moving(refusal)),
-        Ok(ticket) => match empty_records(second_store) {
+        Ok(ticket) => match empty_records(store) {
             Err(fault) => Err(CarryingFault::Keeping(fault)),
             Ok(()) => match accept(
                 alloc,
                 module,
                 Variant::Basic,
-                second,
+                platform,
                 link,
                 ticket.as_slice(),
             ) {
                 Err(refusal) => Err(CarryingFault::Moving(refusal)),
-                Ok(accepted) => match keep_arrival(alloc, second_store, &accepted, request) {
-                    Err(fault) => Err(fault),
-                    Ok(()) => {
-                        let again = session(
-                            alloc,
-                            Variant::Basic,
-                            module,
-                            second,
-                            second_store,
-                            second_input,
-                            second_out,
-                        );
-                        Ok(Carried {
-                            first: served,
-                            invited,
-                            accepted,
-                            second: again,
-                        })
-                    }
-                },
+                Ok(accepted) => keep_arrival(alloc, store, accepted, request),
             },
         },
     }
@@ -139,17 +162,17 @@ pub fn carry_over<
 fn keep_arrival<T: Store>(
     alloc: Global,
     store: &mut T,
-    accepted: &Accepted,
+    accepted: Accepted,
     request: &[u8],
-) -> Result<(), CarryingFault>
+) -> Result<Accepted, CarryingFault>
     requires line { IsLineFront longest_request request.now }
-    ensures { IfOk result (λ it. PutsArrival accepted.now (T.kept store.old) (T.kept store.new)) }
+    ensures { KeepingGoes accepted request.now (T.kept store.old) (T.kept store.new) result }
 {
     if accepted.position >= LAST_POSITION || accepted.snapshot.as_slice().len() > LONGEST_SLOT {
         return Err(CarryingFault::NoRoom);
     }
-    match put_arrival(alloc, store, accepted, request) {
+    match put_arrival(alloc, store, &accepted, request) {
         Err(fault) => Err(CarryingFault::Keeping(fault)),
-        Ok(()) => Ok(()),
+        Ok(()) => Ok(accepted),
     }
 }
