@@ -147,12 +147,13 @@ opt_goes_on refuses meaning lawful link world kept stages f start shown honest t
     (each_self [] asked)) refl
 
 pub opt_goes_on_or_evidence : OptWorldGoesOn → OptWorldGoesOnOrEvidence
-opt_goes_on_or_evidence law meaning lawful link world kept stages f start shown honest told over chance =
+opt_goes_on_or_evidence law meaning lawful link world kept stages f begins honest told over chance =
     elim (clash_or (instance_of Opt meaning link (world 0)) (opt_world_messages meaning link world stages f)
     (world_values meaning link world stages f) (world_batches Opt meaning link world stages f)) [
       | inl clash ↦ inr (inl clash)
       | inr clear ↦ elim (all_or Opt meaning link stages (first_handed Opt meaning link world) world f) [
         | inl broken ↦ inr (inr broken)
-        | inr fair ↦ inl (law meaning lawful link world kept stages f start shown honest told over clear.0 (clear.1 refl) fair chance)
+        | inr fair ↦
+            inl (law meaning lawful link world kept stages f begins.0 begins.1 honest told over clear.0 (clear.1 refl) fair chance)
       ]
     ]

@@ -1,17 +1,32 @@
 -- A module that is carried from one platform to another, over two honest stores, with a session on
--- either side: the world that this is. With it: what comes of a ticket on the platform that the
--- module goes to; where the module was stopped on its way.
-use Rattle.std.specs.Prelude.{◌≡◌, ◌⊎◌, ◌<◌, ◌≤◌, ℕ, Bool, true, false, List, [], ◌∷◌, length, Option, None, Some, Result, Ok, Err}
-use Rattle.mm_honest_worlds.specs.Below.{last_position, Basic, Standing, Meaning, Accepted, Invited, Link, MoveRefusal, Slots, StoreStanding}
-use Rattle.mm_honest_worlds.specs.Below.{StoreFault, Failed, LONGEST_SLOT, CountRisesIf, first_slots, HostStanding, SessionFault, KeepsStore}
-use Rattle.mm_honest_worlds.specs.Below.{BothSites, SiteStanding, accepted_at, invited_at, retired_at, session_at, site_standing, two_platforms}
-use Rattle.mm_honest_worlds.specs.Below.{HasWorldEvidence, instance_of, IsWorldAtStart, first_handed, Accepts, IsWorldLife, WorldPartLeads}
-use Rattle.mm_honest_worlds.specs.Below.{WorldStage, world_at_end}
+-- either side: the world that this is. With it: the checkpoint of Opt; what comes of a ticket on
+-- the platform that the module goes to; where the module was stopped on its way.
+use Rattle.std.specs.Prelude.{◌≡◌, ◌⊎◌, ◌<◌, ◌≤◌, ℕ, Bool, true, false, List, [], ◌∷◌, ◌++◌, length, Option, None, Some, Result, Ok, Err}
+use Rattle.mm_honest_worlds.specs.Below.{last_position, Variant, Basic, Opt, Standing, Meaning, Accepted, Invited, Link, MoveRefusal, Slots}
+use Rattle.mm_honest_worlds.specs.Below.{StoreStanding, StoreFault, Failed, LONGEST_SLOT, CountRisesIf, first_slots, HostStanding}
+use Rattle.mm_honest_worlds.specs.Below.{IsCheckpoint, Checkpointed, CheckpointRefusal, SessionFault, Checkpoints, Does, KeepsStore}
+use Rattle.mm_honest_worlds.specs.Below.{BothSites, Pass, SiteStanding, accepted_at, invited_at, retired_at, session_at, site_standing, two_platforms}
+use Rattle.mm_honest_worlds.specs.Below.{instance_of, Accepts, IsWorldLife, Lives, WorldPartLeads, WorldStage, world_at_end}
 use Rattle.mm_honest_worlds.specs.Arrivals.{EmptyingGoes, PuttingGoes}
-use Rattle.mm_honest_worlds.specs.Laws.{IsGoneOnFrom}
+use Rattle.mm_honest_worlds.specs.Laws.{GivesEvidence, IsGoneOnFrom, WorldBegins}
 use Rattle.mm_honest_worlds.specs.declared.carrying.Carried.{Carried}
 use Rattle.mm_honest_worlds.specs.declared.carrying.CarryingFault.{CarryingFault}
 use Rattle.mm_honest_worlds.specs.declared.carrying.CarryingFault.TheVariants.{Keeping, Moving, NoRoom}
+
+-- The checkpoint of Opt, by which no segment is open where the module leaves.
+
+-- in Basic none is made
+abbrev pub CheckpointGoes : Variant → Standing → Standing
+    → Option (Result Checkpointed CheckpointRefusal) → Type 0
+CheckpointGoes Basic old new None = new ≡ old
+CheckpointGoes Opt old new (Some said) = IsCheckpoint old new said
+CheckpointGoes variant old new said = ⊥
+
+abbrev pub checkpoint_stages : Option (Result Checkpointed CheckpointRefusal) → Standing
+    → List WorldStage
+checkpoint_stages None after = []
+checkpoint_stages (Some said) after =
+    record { at = 0; part = Lives (Does (Checkpoints said)); after = after } ∷ []
 
 -- What comes of a ticket on the platform that the module goes to.
 
@@ -54,17 +69,17 @@ TicketGoes request (Ok ticket) (Some answer) old new result =
     × GoesAfterAccepting request answer emptied new result
 
 -- what this does on the platform
-abbrev pub TicketLeads : Meaning → Link → Result (List ℕ) MoveRefusal
+abbrev pub TicketLeads : Variant → Meaning → Link → Result (List ℕ) MoveRefusal
     → Option (Result Accepted MoveRefusal) → Standing → Standing → Type 0
-TicketLeads meaning link (Ok ticket) (Some answer) old new =
-    WorldPartLeads Basic meaning link old (Accepts ticket answer) new
-TicketLeads meaning link given answer old new = new ≡ old
+TicketLeads variant meaning link (Ok ticket) (Some answer) old new =
+    WorldPartLeads variant meaning link old (Accepts ticket answer) new
+TicketLeads variant meaning link given answer old new = new ≡ old
 
-pub record ArrivalGoes (meaning : Meaning) (link : Link) (request : List ℕ)
+pub record ArrivalGoes (variant : Variant) (meaning : Meaning) (link : Link) (request : List ℕ)
     (given : Result (List ℕ) MoveRefusal) (old new : HostStanding)
     (result : Result Accepted CarryingFault) : Type 0 where
   pub answer : Option (Result Accepted MoveRefusal)
-  pub leads : TicketLeads meaning link given answer old.standing new.standing
+  pub leads : TicketLeads variant meaning link given answer old.standing new.standing
   pub goes : TicketGoes request given answer old.kept new.kept result
 
 -- The world that this is.
@@ -76,39 +91,41 @@ site_over kept site =
 
 -- The stages, in which this ticket was given: what stands between them is told by no object at its
 -- end; no more what the second store shows when the session there begins.
-pub record CarryingStages (nonce key offer : List ℕ) (old new : BothSites)
+pub record CarryingStages (pass : Pass) (offer : List ℕ) (old new : BothSites)
     (result : Carried) : Type 0 where
   pub ticket : List ℕ
   pub served : Standing
+  pub shut : Standing
   pub waiting : Standing
   pub entered : Standing
   pub put : StoreStanding
   pub stages : List WorldStage
   pub are : stages ≡
       session_at 0 old.first new.first result.first served
-      ∷ invited_at 1 nonce key result.invited waiting
-      ∷ retired_at 0 nonce offer (Ok ticket) new.first.platform
+      ∷ (checkpoint_stages result.closed shut
+      ++ invited_at 1 pass.nonce pass.key result.invited waiting
+      ∷ retired_at 0 pass.nonce offer (Ok ticket) new.first.platform
       ∷ accepted_at 1 ticket (Ok result.accepted) entered
       ∷ session_at 1 (site_over put old.second) new.second result.second new.second.platform
-      ∷ []
+      ∷ [])
 
 -- It is a world's life. Where it begins as a world does, over the store of a first start and
 -- another one, both honest and showing their slots, and neither fails in a session: it is gone on
 -- with, or gives evidence.
-pub record CarriesOver (meaning : Meaning) (link : Link) (nonce key offer : List ℕ)
-    (old new : BothSites) (result : Carried) : Type 0 where
-  pub made : CarryingStages nonce key offer old new result
-  pub leads : IsWorldLife Basic meaning link
+pub record CarriesOver (variant : Variant) (meaning : Meaning) (link : Link) (pass : Pass)
+    (offer : List ℕ) (old new : BothSites) (result : Carried) : Type 0 where
+  pub made : CarryingStages pass offer old new result
+  pub leads : IsWorldLife variant meaning link
       (two_platforms old.first.platform old.second.platform) made.stages
   pub goes : (let world = two_platforms old.first.platform old.second.platform in
       let kept = old.first.program.kept in
-      (slots : Slots) → IsWorldAtStart Basic meaning link world → kept.is_honest ≡ true →
-      kept.slots ≡ Some (first_slots (instance_of Basic meaning link (world 0))) →
+      (slots : Slots) → WorldBegins variant meaning link world made.stages →
+      kept.is_honest ≡ true →
+      kept.slots ≡ Some (first_slots (instance_of variant meaning link (world 0))) →
       old.second.program.kept.is_honest ≡ true → old.second.program.kept.slots ≡ Some slots →
       KeepsStore result.first → KeepsStore result.second →
-      IsGoneOnFrom meaning link kept world made.stages leads
-      ⊎ HasWorldEvidence Basic meaning link (first_handed Basic meaning link world) world
-      made.stages leads)
+      IsGoneOnFrom variant meaning link kept world made.stages leads
+      ⊎ GivesEvidence variant meaning link world made.stages leads)
 
 -- Where the module was stopped on its way.
 
@@ -126,10 +143,12 @@ is_second_store fault = false
 -- The stages so far are a world's life, at whose end the second platform stands as it does. Why it
 -- was stopped, and what the second store holds, is by what came of the ticket: the store's count
 -- rose exactly where it is told that it failed. No session was held there.
-pub record CarryingStops (meaning : Meaning) (link : Link) (nonce key offer request : List ℕ)
-    (old new : BothSites) (fault : CarryingFault) : Type 0 where
+pub record CarryingStops (variant : Variant) (meaning : Meaning) (link : Link) (pass : Pass)
+    (offer request : List ℕ) (old new : BothSites) (fault : CarryingFault) : Type 0 where
   pub first : Result Unit SessionFault
   pub served : Standing
+  pub closed : Option (Result Checkpointed CheckpointRefusal)
+  pub shut : Standing
   pub invited : Result Invited MoveRefusal
   pub waiting : Standing
   pub given : Result (List ℕ) MoveRefusal
@@ -137,10 +156,11 @@ pub record CarryingStops (meaning : Meaning) (link : Link) (nonce key offer requ
   pub stages : List WorldStage
   pub are : stages ≡
       session_at 0 old.first new.first first served
-      ∷ invited_at 1 nonce key invited waiting
-      ∷ retired_at 0 nonce offer given new.first.platform
-      ∷ acceptance_stages given answer new.second.platform
-  pub leads : IsWorldLife Basic meaning link
+      ∷ (checkpoint_stages closed shut
+      ++ invited_at 1 pass.nonce pass.key invited waiting
+      ∷ retired_at 0 pass.nonce offer given new.first.platform
+      ∷ acceptance_stages given answer new.second.platform)
+  pub leads : IsWorldLife variant meaning link
       (two_platforms old.first.platform old.second.platform) stages
   pub ends : world_at_end (two_platforms old.first.platform old.second.platform) stages 1
       ≡ new.second.platform
@@ -152,9 +172,9 @@ pub record CarryingStops (meaning : Meaning) (link : Link) (nonce key offer requ
   pub received : new.second.program.received ≡ old.second.program.received
 
 -- it was carried, or stopped by this
-abbrev pub CarriesOrStops : Meaning → Link → (nonce key offer request : List ℕ)
+abbrev pub CarriesOrStops : Variant → Meaning → Link → Pass → (offer request : List ℕ)
     → (old new : BothSites) → Result Carried CarryingFault → Type 0
-CarriesOrStops meaning link nonce key offer request old new (Ok carried) =
-    CarriesOver meaning link nonce key offer old new carried
-CarriesOrStops meaning link nonce key offer request old new (Err fault) =
-    CarryingStops meaning link nonce key offer request old new fault
+CarriesOrStops variant meaning link pass offer request old new (Ok carried) =
+    CarriesOver variant meaning link pass offer old new carried
+CarriesOrStops variant meaning link pass offer request old new (Err fault) =
+    CarryingStops variant meaning link pass offer request old new fault

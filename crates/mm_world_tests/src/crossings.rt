@@ -1,5 +1,5 @@
 //! A crossing between two platforms in memory, with a session on either side; and one over two
-//! honest stores, where the host writes what belongs to the arrival.
+//! honest stores, where the host writes what belongs to the arrival, in either variant.
 
 use mm_ask::{Secrets, provision};
 use mm_base::{MemSink, MemSource};
@@ -193,9 +193,39 @@ fn has_come_well(carried: &Carried) -> bool {
     carried.first.is_ok() && carried.invited.is_ok() && carried.second.is_ok()
 }
 
-fn is_carried(alloc: Global, first: &mut Site, second: &mut Site, offer: &[u8]) -> bool {
+// The snapshot that a platform like the first one gives behind two requests, in Opt inside a
+// segment.
+fn offer_behind(
+    alloc: Global,
+    variant: Variant,
+    platform: &mut MemPlatform,
+    first: &[u8],
+) -> Result<Bytes, Memory> {
+    match variant {
+        Variant::Basic => snapshot_behind(alloc, platform, first),
+        Variant::Opt => snapshot_inside(alloc, platform, first),
+    }
+}
+
+fn snapshot_inside(
+    alloc: Global,
+    platform: &mut MemPlatform,
+    first: &[u8],
+) -> Result<Bytes, Memory> {
+    let five = answered(mm_opt::ask(alloc, &Counter, platform, first, b"add 5"))?;
+    answered(mm_opt::ask(alloc, &Counter, platform, five.as_slice(), b"add 6"))
+}
+
+fn is_carried(
+    alloc: Global,
+    variant: Variant,
+    first: &mut Site,
+    second: &mut Site,
+    offer: &[u8],
+) -> bool {
     match carry_over(
         alloc,
+        variant,
         &Counter,
         &LINK,
         &NONCE,
@@ -218,30 +248,52 @@ fn is_carried(alloc: Global, first: &mut Site, second: &mut Site, offer: &[u8]) 
 
 // Whether the request that was put there is told first, at the next position, and the line behind
 // it.
-fn is_carried_with(alloc: Global, first: &mut Site, second: &mut Site, offer: &[u8]) -> bool {
-    is_carried(alloc, first, second, offer)
+fn is_carried_with(
+    alloc: Global,
+    variant: Variant,
+    first: &mut Site,
+    second: &mut Site,
+    offer: &[u8],
+) -> bool {
+    is_carried(alloc, variant, first, second, offer)
         && first.out.content() == b"ok 1 5\nok 2 11\n".as_slice()
         && second.out.content() == b"ok 3 18\nok 4 26\n".as_slice()
 }
 
-fn is_carried_by(alloc: Global, behind: &mut Site, offers: &Offers) -> Result<bool, Memory> {
+fn is_carried_by(
+    alloc: Global,
+    variant: Variant,
+    behind: &mut Site,
+    offer: &[u8],
+) -> Result<bool, Memory> {
     let mut ahead = new_site(alloc, &[0; 104], &[], b"add 8\n")?;
-    Ok(is_carried_with(alloc, behind, &mut ahead, offers.left.as_slice()))
+    Ok(is_carried_with(alloc, variant, behind, &mut ahead, offer))
 }
 
-fn is_carried_from(alloc: Global, cell: &[u8; 104], first: &[u8]) -> Result<bool, Memory> {
-    let offers = offers_from(alloc, cell, first)?;
+fn is_carried_from(
+    alloc: Global,
+    variant: Variant,
+    cell: &[u8; 104],
+    first: &[u8],
+) -> Result<bool, Memory> {
+    let mut like = MemPlatform::new(alloc, cell);
+    let offer = offer_behind(alloc, variant, &mut like, first)?;
     let mut behind = new_site(alloc, cell, first, b"add 5\nadd 6\n")?;
-    is_carried_by(alloc, &mut behind, &offers)
+    is_carried_by(alloc, variant, &mut behind, offer.as_slice())
+}
+
+fn is_carried_in(alloc: Global, variant: Variant) -> Result<bool, Memory> {
+    let secrets = Secrets {
+        key: [9; 32],
+        barrier: [2; 32],
+    };
+    let made = provision(alloc, variant, &Counter, &secrets)?;
+    is_carried_from(alloc, variant, &made.cell, made.snapshot.as_slice())
 }
 
 #[test]
 fn a_module_is_carried_over(rt: HostRuntime) -> Result<(), Fail> {
-    let secrets = Secrets {
-        key: [9; 32],
-        barrier: [0; 32],
-    };
-    let made = provision(rt.alloc(), Variant::Basic, &Counter, &secrets)?;
-    assert!(rt; is_carried_from(rt.alloc(), &made.cell, made.snapshot.as_slice())?);
+    assert!(rt; is_carried_in(rt.alloc(), Variant::Basic)?);
+    assert!(rt; is_carried_in(rt.alloc(), Variant::Opt)?);
     Ok(())
 }
