@@ -22,8 +22,8 @@ use Rattle.mm_honest_worlds.specs.Laws.{OptWorldGoesOnOrEvidence, WorldGoesOnOrE
 use Rattle.mm_mortal_worlds.specs.MortalWorlds.{Dies, Happens, IsMortalWorldLife, MortalWorldPart, MortalWorldPartLeads, MortalWorldStage}
 use Rattle.mm_mortal_worlds.specs.MortalWorlds.{MortalWorldsEnd, WorldEnds, WorldPartEnds, ended_leads, ended_part, mortal_world_after}
 use Rattle.mm_mortal_worlds.specs.MortalWorlds.{mortal_opt_world_messages, mortal_world_messages, mortal_world_values}
-use Rattle.mm_mortal_worlds.specs.OverStores.{AreMortalOverStores, BasicMortalWorldGoesOn, DyingLeavesNoChance, DyingStartsOver, IsBasicGoneOn}
-use Rattle.mm_mortal_worlds.specs.OverStores.{IsMortalOverStore, IsOptGoneOn, MortalLeaveNoChance, MortalLeavesNoneByChance}
+use Rattle.mm_mortal_worlds.specs.OverStores.{AreMortalOverStores, BasicMortalWorldGoesOn, DyingLeavesNoChance, DyingStartsOver}
+use Rattle.mm_mortal_worlds.specs.OverStores.{IsMortalGoneOnFrom, IsMortalOverStore, MortalLeaveNoChance, MortalLeavesNoneByChance}
 use Rattle.mm_mortal_worlds.specs.OverStores.{MortalWorldGoesOnOrEvidence, OptMortalWorldGoesOn, OptMortalWorldGoesOnOrEvidence}
 use Rattle.mm_mortal_worlds.specs.OverStores.{store_behind_mortal, stores_behind_mortal}
 use Rattle.mm_mortal_worlds.proofs.MortalWorlds.{batches_same, ended, evidence, honest, life, messages_same, opt_evidence, opt_messages_same}
@@ -97,7 +97,7 @@ basic_gone : (meaning : Meaning) (link : Link) (world : World) (kept : StoreStan
     let life' = life Basic meaning link world stages f e in
     IsWorldGoneOn Basic (world_messages Basic meaning link world stages' life') [] (world_batches Basic meaning link world stages' life')
     meaning link (stores_at_start kept) world stages' life')
-    → IsBasicGoneOn meaning link kept world stages f
+    → IsMortalGoneOnFrom Basic meaning link kept world stages f
 basic_gone meaning link world kept stages f e gone =
     let stages' = ended Basic meaning link world stages f e in
     let life' = life Basic meaning link world stages f e in
@@ -116,7 +116,7 @@ opt_gone : (meaning : Meaning) (link : Link) (world : World) (kept : StoreStandi
     let life' = life Opt meaning link world stages f e in
     IsWorldGoneOn Opt (opt_world_messages meaning link world stages' life') (world_values meaning link world stages' life')
     (world_batches Opt meaning link world stages' life') meaning link (stores_at_start kept) world stages' life')
-    → IsOptGoneOn meaning link kept world stages f
+    → IsMortalGoneOnFrom Opt meaning link kept world stages f
 opt_gone meaning link world kept stages f e gone =
     let stages' = ended Opt meaning link world stages f e in
     let life' = life Opt meaning link world stages f e in
@@ -171,10 +171,10 @@ opt_goes_on end law meaning lawful link world kept stages f start registers sinc
     (none_by_chance Opt meaning link world stages f e none))
 
 pub opt_goes_on_or_evidence : MortalWorldsEnd → OptWorldGoesOnOrEvidence → OptMortalWorldGoesOnOrEvidence
-opt_goes_on_or_evidence end law meaning lawful link world kept stages f start registers sincere told over none =
+opt_goes_on_or_evidence end law meaning lawful link world kept stages f begins sincere told over none =
     let e = end Opt meaning lawful link world stages f in
-    elim (law meaning lawful link world kept (ended Opt meaning link world stages f e) (life Opt meaning link world stages f e) start
-    (registers_told meaning link world stages f e registers) sincere told
+    elim (law meaning lawful link world kept (ended Opt meaning link world stages f e) (life Opt meaning link world stages f e)
+    (begins.0, registers_told meaning link world stages f e begins.1) sincere told
     (over_stores Opt meaning link (stores_at_start kept) world stages f e over)
     (none_by_chance Opt meaning link world stages f e none)) [
       | inl gone ↦ inl (opt_gone meaning link world kept stages f e gone)

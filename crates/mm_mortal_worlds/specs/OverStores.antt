@@ -74,21 +74,53 @@ module _ (variant : Variant) (all others : List (List ℕ)) (asked : List Batch)
         (ended_world_stages variant meaning link world stages f ends)
         (ended_world_life variant meaning link world stages f ends)
 
-abbrev pub IsBasicGoneOn : (meaning : Meaning) (link : Link) (kept : StoreStanding) (world : World)
-    (stages : List MortalWorldStage) → IsMortalWorldLife Basic meaning link world stages → Type 0
-IsBasicGoneOn meaning link kept world stages f =
+-- A world begins, and in Opt registers are told; it is gone on with; or it gives evidence: in its
+-- variant.
+abbrev pub MortalWorldBegins : Variant → Meaning → Link → World → List MortalWorldStage → Type 0
+MortalWorldBegins Basic meaning link world stages = IsWorldAtStart Basic meaning link world
+MortalWorldBegins Opt meaning link world stages =
+    IsOptWorldAtStart meaning link world × AreMortalRegistersTold stages
+
+abbrev pub IsMortalGoneOnFrom : (variant : Variant) (meaning : Meaning) (link : Link)
+    (kept : StoreStanding) (world : World) (stages : List MortalWorldStage)
+    → IsMortalWorldLife variant meaning link world stages → Type 0
+IsMortalGoneOnFrom Basic meaning link kept world stages f =
     IsMortalWorldGoneOn Basic (mortal_world_messages meaning link world stages f) []
     (mortal_world_batches Basic meaning link world stages f) meaning link kept world stages f
-
-abbrev pub IsOptGoneOn : (meaning : Meaning) (link : Link) (kept : StoreStanding) (world : World)
-    (stages : List MortalWorldStage) → IsMortalWorldLife Opt meaning link world stages → Type 0
-IsOptGoneOn meaning link kept world stages f =
+IsMortalGoneOnFrom Opt meaning link kept world stages f =
     IsMortalWorldGoneOn Opt (mortal_opt_world_messages meaning link world stages f)
     (mortal_world_values meaning link world stages f)
     (mortal_world_batches Opt meaning link world stages f) meaning link kept world stages f
 
--- It is, under the premises of such a world with killed programs; and with none but the start and
--- what the stores show it is, or one holds evidence in hand.
+abbrev pub GivesMortalEvidence : (variant : Variant) (meaning : Meaning) (link : Link)
+    (world : World) (stages : List MortalWorldStage)
+    → IsMortalWorldLife variant meaning link world stages → Type 0
+GivesMortalEvidence Basic meaning link world stages f =
+    HasMortalWorldEvidence meaning link (first_handed Basic meaning link world) world stages f
+GivesMortalEvidence Opt meaning link world stages f =
+    HasOptMortalWorldEvidence meaning link (first_handed Opt meaning link world) world stages f
+
+-- With no premise but the start, and what the stores show where the module is, it is gone on with,
+-- or one holds evidence in hand.
+abbrev pub MortalGoesOnOrEvidence : Variant → Type 0
+MortalGoesOnOrEvidence variant =
+    (meaning : Meaning) → IsLawful meaning → (link : Link) (world : World) (kept : StoreStanding)
+    (stages : List MortalWorldStage) (f : IsMortalWorldLife variant meaning link world stages) →
+    MortalWorldBegins variant meaning link world stages →
+    kept.is_honest ≡ true →
+    kept.slots ≡ Some (first_slots (instance_of variant meaning link (world 0))) →
+    AreMortalOverStores (stores_at_start kept) world stages →
+    MortalLeaveNoChance variant meaning link world stages f →
+    IsMortalGoneOnFrom variant meaning link kept world stages f
+    ⊎ GivesMortalEvidence variant meaning link world stages f
+
+abbrev pub MortalWorldGoesOnOrEvidence : Type 0
+MortalWorldGoesOnOrEvidence = MortalGoesOnOrEvidence Basic
+
+abbrev pub OptMortalWorldGoesOnOrEvidence : Type 0
+OptMortalWorldGoesOnOrEvidence = MortalGoesOnOrEvidence Opt
+
+-- It is gone on with, under the premises of such a world.
 abbrev pub BasicMortalWorldGoesOn : Type 0
 BasicMortalWorldGoesOn =
     (meaning : Meaning) → IsLawful meaning → (link : Link) (world : World) (kept : StoreStanding)
@@ -100,19 +132,7 @@ BasicMortalWorldGoesOn =
     IsClear (mortal_world_messages meaning link world stages f) →
     AreMortalHonest Basic meaning link (first_handed Basic meaning link world) world stages f →
     MortalLeaveNoChance Basic meaning link world stages f →
-    IsBasicGoneOn meaning link kept world stages f
-
-abbrev pub MortalWorldGoesOnOrEvidence : Type 0
-MortalWorldGoesOnOrEvidence =
-    (meaning : Meaning) → IsLawful meaning → (link : Link) (world : World) (kept : StoreStanding)
-    (stages : List MortalWorldStage) (f : IsMortalWorldLife Basic meaning link world stages) →
-    IsWorldAtStart Basic meaning link world →
-    kept.is_honest ≡ true →
-    kept.slots ≡ Some (first_slots (instance_of Basic meaning link (world 0))) →
-    AreMortalOverStores (stores_at_start kept) world stages →
-    MortalLeaveNoChance Basic meaning link world stages f →
-    IsBasicGoneOn meaning link kept world stages f
-    ⊎ HasMortalWorldEvidence meaning link (first_handed Basic meaning link world) world stages f
+    IsMortalGoneOnFrom Basic meaning link kept world stages f
 
 abbrev pub OptMortalWorldGoesOn : Type 0
 OptMortalWorldGoesOn =
@@ -127,16 +147,4 @@ OptMortalWorldGoesOn =
     (mortal_world_batches Opt meaning link world stages f) →
     AreMortalHonest Opt meaning link (first_handed Opt meaning link world) world stages f →
     MortalLeaveNoChance Opt meaning link world stages f →
-    IsOptGoneOn meaning link kept world stages f
-
-abbrev pub OptMortalWorldGoesOnOrEvidence : Type 0
-OptMortalWorldGoesOnOrEvidence =
-    (meaning : Meaning) → IsLawful meaning → (link : Link) (world : World) (kept : StoreStanding)
-    (stages : List MortalWorldStage) (f : IsMortalWorldLife Opt meaning link world stages) →
-    IsOptWorldAtStart meaning link world → AreMortalRegistersTold stages →
-    kept.is_honest ≡ true →
-    kept.slots ≡ Some (first_slots (instance_of Opt meaning link (world 0))) →
-    AreMortalOverStores (stores_at_start kept) world stages →
-    MortalLeaveNoChance Opt meaning link world stages f →
-    IsOptGoneOn meaning link kept world stages f
-    ⊎ HasOptMortalWorldEvidence meaning link (first_handed Opt meaning link world) world stages f
+    IsMortalGoneOnFrom Opt meaning link kept world stages f
