@@ -211,28 +211,28 @@ module _ (variant : Variant) (law : GoesOnOrEvidence variant) (meaning : Meaning
       → IsSession variant meaning (session_on entered (site_over put second).program) (session_on second'.platform second'.program)
       result.second
       → CarriesOver variant meaning link (pass_of nonce key) offer (both_sites first second) (both_sites first' second') result
-  carries paper is id own one closes invites retires accepts two = whole
-      (λ items. told_beside waiting entered
-      (move_beside (λ (bytes : List ℕ). acceptance_in meaning variant link paper (moved_cell_of bytes)) waiting entered
-      (Ok result.accepted) accepts.moves) (told_beside second.platform waiting
-      (move_beside (λ (bytes : List ℕ). invitation_in (waiting_for link variant id nonce key) (moved_cell_of bytes)) second.platform
-      waiting result.invited invites.moves) items)) (
+  carries paper is id own one closes invites retires accepts two =
+      let came = move_beside (λ (bytes : List ℕ). acceptance_in meaning variant link paper (moved_cell_of bytes)) waiting entered
+      (Ok result.accepted) accepts.moves in
+      let awaits = move_beside (λ (bytes : List ℕ). invitation_in (waiting_for link variant id nonce key) (moved_cell_of bytes))
+      second.platform waiting result.invited invites.moves in
+      let served_world : World = world_after world (session_at 0 first first' result.first served) in
+      whole (λ told. told_beside waiting entered came (told_beside second.platform waiting awaits told)) (
         one,
-        checked_leads variant meaning link (world_after world (session_at 0 first first' result.first served)) served shut result.closed refl
-            closes moves (λ later here there. (
-              invited_from variant meaning link nonce key long_nonce long_key second.platform (later 1) waiting result.invited id own
-                  (sym there) invites,
-              (
-                (
-                  long_nonce,
-                  subst (λ (x : Standing). MovePromise (λ (bytes : List ℕ). retirement_in meaning variant link nonce offer
-                      (moved_cell_of bytes)) x first'.platform (Ok ticket)) (sym here) retires,
-                ),
-                (
-                  subst (λ (bytes : List ℕ). MovePromise (λ (cell : List ℕ). acceptance_in meaning variant link bytes (moved_cell_of cell))
-                      waiting entered (Ok result.accepted)) is accepts,
-                  (two, tt),
-                ),
-              ),
-            )),
+        checked_leads variant meaning link served_world served shut result.closed refl closes moves (λ later here there. (
+          invited_from variant meaning link nonce key long_nonce long_key second.platform (later 1) waiting result.invited id own
+              (sym there) invites,
+          (
+            (
+              long_nonce,
+              subst (λ (x : Standing). MovePromise (λ (bytes : List ℕ). retirement_in meaning variant link nonce offer
+                  (moved_cell_of bytes)) x first'.platform (Ok ticket)) (sym here) retires,
+            ),
+            (
+              subst (λ (bytes : List ℕ). MovePromise (λ (cell : List ℕ). acceptance_in meaning variant link bytes (moved_cell_of cell))
+                  waiting entered (Ok result.accepted)) is accepts,
+              (two, tt),
+            ),
+          ),
+        )),
       )
