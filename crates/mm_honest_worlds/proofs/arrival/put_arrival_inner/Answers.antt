@@ -1,4 +1,4 @@
-use Rattle.std.proofs.Common.{[], ◌∷◌, ◌∙◌}
+use Rattle.std.proofs.Common.{[], ◌∷◌, ◌∙◌, rules}
 use Rattle.mm_honest_worlds.specs.Arrivals.{record_after}
 use Rattle.mm_honest_worlds.proofs.Putting.{none_put, record_short}
 use Rattle.mm_honest_worlds.proofs.arrival.put_arrival_inner.Goals as goal
@@ -10,3 +10,9 @@ pub write-requires-2-clause-short : goal.write-requires-2-clause-short
 write-requires-2-clause-short g c =
     record_short (record_after c.args.accepted.now c.args.request.now) c.as_slice-2.result.now
     (c.as_slice-2.ensures.value ∙ c.in_ok-record.ensures) c.requires.line.short
+
+pub returns-in_err-write : goal.returns-in_err-write
+returns-in_err-write g c = search rules
+
+pub returns : goal.returns
+returns g c = search rules
