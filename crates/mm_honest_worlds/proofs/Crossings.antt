@@ -180,9 +180,10 @@ module _ (variant : Variant) (law : GoesOnOrEvidence variant) (meaning : Meaning
   tells None told = (tt, (tt, (tt, (told, (tt, tt)))))
   tells (Some said) told = (tt, (tt, (tt, (tt, (told, (tt, tt))))))
 
-  whole : (IsSome second.platform.items → IsSome entered.items) → IsWorldLife variant meaning link world (stages result.closed)
+  whole : CheckpointGoes variant served shut result.closed → (IsSome second.platform.items → IsSome entered.items)
+      → IsWorldLife variant meaning link world (stages result.closed)
       → CarriesOver variant meaning link (pass_of nonce key) offer (both_sites first second) (both_sites first' second') result
-  whole shown leads = record {
+  whole closes shown leads = record {
     made = record {
       ticket = ticket;
       served = served;
@@ -193,6 +194,7 @@ module _ (variant : Variant) (law : GoesOnOrEvidence variant) (meaning : Meaning
       stages = stages result.closed;
       are = refl;
     };
+    checked = closes;
     leads = leads;
     goes = λ slots begins honest told honest' told' kept kept'.
         law meaning lawful link world first.program.kept (stages result.closed) leads
@@ -217,7 +219,7 @@ module _ (variant : Variant) (law : GoesOnOrEvidence variant) (meaning : Meaning
       let awaits = move_beside (λ (bytes : List ℕ). invitation_in (waiting_for link variant id nonce key) (moved_cell_of bytes))
       second.platform waiting result.invited invites.moves in
       let served_world : World = world_after world (session_at 0 first first' result.first served) in
-      whole (λ told. told_beside waiting entered came (told_beside second.platform waiting awaits told)) (
+      whole closes (λ told. told_beside waiting entered came (told_beside second.platform waiting awaits told)) (
         one,
         checked_leads variant meaning link served_world served shut result.closed refl closes moves (λ later here there. (
           invited_from variant meaning link nonce key long_nonce long_key second.platform (later 1) waiting result.invited id own

@@ -123,6 +123,7 @@ CarryingBegins Opt meaning link old =
 pub record CarriesOver (variant : Variant) (meaning : Meaning) (link : Link) (pass : Pass)
     (offer : List ℕ) (old new : BothSites) (result : Carried) : Type 0 where
   pub made : CarryingStages pass offer old new result
+  pub checked : CheckpointGoes variant made.served made.shut result.closed
   pub leads : IsWorldLife variant meaning link
       (two_platforms old.first.platform old.second.platform) made.stages
   pub goes : (let world = two_platforms old.first.platform old.second.platform in
@@ -156,6 +157,7 @@ pub record CarryingStops (variant : Variant) (meaning : Meaning) (link : Link) (
   pub served : Standing
   pub closed : Option (Result Checkpointed CheckpointRefusal)
   pub shut : Standing
+  pub checked : CheckpointGoes variant served shut closed
   pub invited : Result Invited MoveRefusal
   pub waiting : Standing
   pub given : Result (List ℕ) MoveRefusal
