@@ -1,10 +1,11 @@
 -- A module that is carried from one platform to another; and a world of Basic that goes on, or gives evidence.
+use Rattle.std.specs.Prelude.{IsSome}
 use Rattle.std.proofs.Common.{◌≡◌, ◌∙◌, ◌++◌, ℕ, List, [], ◌∷◌, length, Option, None, Some, Result, Ok, refl, sym, subst, inl, inr}
 use Rattle.mm_digest.specs.declared.variant.Variant.{Variant}
 use Rattle.mm_digest.specs.declared.variant.Variant.TheVariants.{Basic, Opt}
 use Rattle.mm_opt.specs.declared.segment.Checkpointed.{Checkpointed}
 use Rattle.mm_opt.specs.declared.segment.CheckpointRefusal.{CheckpointRefusal}
-use Rattle.mm_platform.specs.Standing.{Standing}
+use Rattle.mm_platform.specs.Standing.{Item, Standing, items_beside}
 use Rattle.mm_module.specs.Meaning.{IsLawful, Meaning}
 use Rattle.mm_evidence.proofs.Above.{clash_or}
 use Rattle.mm_host.specs.Sessions.{IsSession}
@@ -18,16 +19,17 @@ use Rattle.mm_move.specs.declared.link.Link.{Link}
 use Rattle.mm_move.specs.declared.refusal.MoveRefusal.{MoveRefusal}
 use Rattle.mm_sides.specs.BothSides.{Blank, Live, Retired, Role, Waiting}
 use Rattle.mm_store.specs.StoreStanding.{StoreStanding}
-use Rattle.mm_worlds.specs.Journey.{SiteStanding, accepted_at, both_sites, invited_at, pass_of, retired_at, session_at, two_platforms}
+use Rattle.mm_worlds.specs.Journey.{BothSites, SiteStanding, accepted_at, both_sites, invited_at, pass_of, retired_at, session_at, two_platforms}
 use Rattle.mm_worlds.specs.Premises.{instance_of, role_of, first_handed, world_messages, IsWorldLife, Lives, World, WorldStage}
 use Rattle.mm_worlds.specs.Premises.{Invites, WorldPartLeads, world_after, world_at_end}
-use Rattle.mm_worlds.proofs.Above.{all_or}
+use Rattle.mm_worlds.specs.OneWorld.{AreRegistersTold}
+use Rattle.mm_worlds.proofs.Above.{IsBeside, all_or, move_beside}
 use Rattle.mm_honest_worlds.specs.Arrivals.{EmptiesRecords, PutsArrival}
-use Rattle.mm_honest_worlds.specs.Carrying.{CarriesOver, CheckpointGoes, checkpoint_stages, site_over}
+use Rattle.mm_honest_worlds.specs.Carrying.{CarriesOver, CarryingBegins, CheckpointGoes, checkpoint_stages, site_over}
 use Rattle.mm_honest_worlds.specs.GoingOn.{BasicWorldGoesOn}
 use Rattle.mm_honest_worlds.specs.HostStores.{Arrived, HostStore, IsOverStores, LeaveNoChance, LeavesNoChanceAt, LeftAs, PartStartsOver}
 use Rattle.mm_honest_worlds.specs.HostStores.{ShowsArrival, StartsOver, stores_at_start}
-use Rattle.mm_honest_worlds.specs.Laws.{GoesOnOrEvidence, WorldGoesOnOrEvidence}
+use Rattle.mm_honest_worlds.specs.Laws.{GoesOnOrEvidence, WorldBegins, WorldGoesOnOrEvidence}
 use Rattle.mm_honest_worlds.specs.declared.carrying.Carried.{Carried}
 
 pub goes_on_or_evidence : BasicWorldGoesOn → WorldGoesOnOrEvidence
@@ -107,6 +109,20 @@ invited_from variant meaning link nonce key long_nonce long_key before now waiti
       before waiting invited) own invites),
 )
 
+-- a platform that tells its register goes on to tell it, whatever move is made
+told_kept : (values : List (List ℕ)) (items : Option (List Item)) → IsSome items → IsSome (items_beside values items)
+told_kept values None told = absurd (cc)
+told_kept values (Some xs) told = refl
+
+told_beside : (old new : Standing) → IsBeside old new → IsSome old.items → IsSome new.items
+told_beside old new b told = subst (λ (items : Option (List Item)). IsSome items) (sym b.items) (told_kept b.values old.items told)
+
+begins_with : (variant : Variant) (meaning : Meaning) (link : Link) (old : BothSites) (stages : List WorldStage)
+    → (IsSome old.second.platform.items → AreRegistersTold stages) → CarryingBegins variant meaning link old
+    → WorldBegins variant meaning link (two_platforms old.first.platform old.second.platform) stages
+begins_with Basic meaning link old stages tells begins = begins
+begins_with Opt meaning link old stages tells begins = (begins.0, tells begins.1)
+
 module _ (variant : Variant) (law : GoesOnOrEvidence variant) (meaning : Meaning) (lawful : IsLawful meaning) (link : Link)
     (nonce key offer : List ℕ) (long_nonce : length nonce ≡ 32) (long_key : length key ≡ 32)
     (first first' second second' : SiteStanding) (result : Carried) (served shut waiting entered : Standing) (ticket : List ℕ)
@@ -160,9 +176,14 @@ module _ (variant : Variant) (law : GoesOnOrEvidence variant) (meaning : Meaning
     ),
   )
 
-  whole : IsWorldLife variant meaning link world (stages result.closed)
+  tells : (closed : Option (Result Checkpointed CheckpointRefusal)) → IsSome entered.items → AreRegistersTold (stages closed)
+  tells None told = (tt, (tt, (tt, (told, (tt, tt)))))
+  tells (Some said) told = (tt, (tt, (tt, (tt, (told, (tt, tt))))))
+
+  whole : CheckpointGoes variant served shut result.closed → (IsSome second.platform.items → IsSome entered.items)
+      → IsWorldLife variant meaning link world (stages result.closed)
       → CarriesOver variant meaning link (pass_of nonce key) offer (both_sites first second) (both_sites first' second') result
-  whole leads = record {
+  whole closes shown leads = record {
     made = record {
       ticket = ticket;
       served = served;
@@ -173,9 +194,12 @@ module _ (variant : Variant) (law : GoesOnOrEvidence variant) (meaning : Meaning
       stages = stages result.closed;
       are = refl;
     };
+    checked = closes;
     leads = leads;
     goes = λ slots begins honest told honest' told' kept kept'.
-        law meaning lawful link world first.program.kept (stages result.closed) leads begins honest told
+        law meaning lawful link world first.program.kept (stages result.closed) leads
+        (begins_with variant meaning link (both_sites first second) (stages result.closed)
+        (λ items. tells result.closed (shown items)) begins) honest told
         (over result.closed (puts (empties slots honest' told'))) (chance result.closed leads kept kept');
   }
 
@@ -189,10 +213,15 @@ module _ (variant : Variant) (law : GoesOnOrEvidence variant) (meaning : Meaning
       → IsSession variant meaning (session_on entered (site_over put second).program) (session_on second'.platform second'.program)
       result.second
       → CarriesOver variant meaning link (pass_of nonce key) offer (both_sites first second) (both_sites first' second') result
-  carries paper is id own one closes invites retires accepts two = whole (
-    one,
-    checked_leads variant meaning link (world_after world (session_at 0 first first' result.first served)) served shut result.closed refl
-        closes moves (λ later here there. (
+  carries paper is id own one closes invites retires accepts two =
+      let came = move_beside (λ (bytes : List ℕ). acceptance_in meaning variant link paper (moved_cell_of bytes)) waiting entered
+      (Ok result.accepted) accepts.moves in
+      let awaits = move_beside (λ (bytes : List ℕ). invitation_in (waiting_for link variant id nonce key) (moved_cell_of bytes))
+      second.platform waiting result.invited invites.moves in
+      let served_world : World = world_after world (session_at 0 first first' result.first served) in
+      whole closes (λ told. told_beside waiting entered came (told_beside second.platform waiting awaits told)) (
+        one,
+        checked_leads variant meaning link served_world served shut result.closed refl closes moves (λ later here there. (
           invited_from variant meaning link nonce key long_nonce long_key second.platform (later 1) waiting result.invited id own
               (sym there) invites,
           (
@@ -208,4 +237,4 @@ module _ (variant : Variant) (law : GoesOnOrEvidence variant) (meaning : Meaning
             ),
           ),
         )),
-  )
+      )

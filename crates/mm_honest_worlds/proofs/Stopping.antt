@@ -125,6 +125,7 @@ module _ (variant : Variant) (meaning : Meaning) (link : Link) (nonce key offer 
         served = served;
         closed = closed;
         shut = shut;
+        checked = closes;
         invited = invited;
         waiting = waiting;
         given = given;

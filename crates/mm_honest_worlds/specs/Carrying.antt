@@ -1,14 +1,14 @@
 -- A module that is carried from one platform to another, over two honest stores, with a session on
 -- either side: the world that this is. With it: the checkpoint of Opt; what comes of a ticket on
 -- the platform that the module goes to; where the module was stopped on its way.
-use Rattle.std.specs.Prelude.{◌≡◌, ◌⊎◌, ◌<◌, ◌≤◌, ℕ, Bool, true, false, List, [], ◌∷◌, ◌++◌, length, Option, None, Some, Result, Ok, Err}
+use Rattle.std.specs.Prelude.{◌≡◌, ◌⊎◌, ◌<◌, ◌≤◌, ℕ, Bool, true, false, List, [], ◌∷◌, ◌++◌, length, IsSome, Option, None, Some, Result, Ok, Err}
 use Rattle.mm_honest_worlds.specs.Below.{last_position, Variant, Basic, Opt, Standing, Meaning, Accepted, Invited, Link, MoveRefusal, Slots}
 use Rattle.mm_honest_worlds.specs.Below.{StoreStanding, StoreFault, Failed, LONGEST_SLOT, CountRisesIf, first_slots, HostStanding}
 use Rattle.mm_honest_worlds.specs.Below.{IsCheckpoint, Checkpointed, CheckpointRefusal, SessionFault, Checkpoints, Does, KeepsStore}
 use Rattle.mm_honest_worlds.specs.Below.{BothSites, Pass, SiteStanding, accepted_at, invited_at, retired_at, session_at, site_standing, two_platforms}
-use Rattle.mm_honest_worlds.specs.Below.{instance_of, Accepts, IsWorldLife, Lives, WorldPartLeads, WorldStage, world_at_end}
+use Rattle.mm_honest_worlds.specs.Below.{IsOptWorldAtStart, IsWorldAtStart, instance_of, Accepts, IsWorldLife, Lives, WorldPartLeads, WorldStage, world_at_end}
 use Rattle.mm_honest_worlds.specs.Arrivals.{EmptyingGoes, PuttingGoes}
-use Rattle.mm_honest_worlds.specs.Laws.{GivesEvidence, IsGoneOnFrom, WorldBegins}
+use Rattle.mm_honest_worlds.specs.Laws.{GivesEvidence, IsGoneOnFrom}
 use Rattle.mm_honest_worlds.specs.declared.carrying.Carried.{Carried}
 use Rattle.mm_honest_worlds.specs.declared.carrying.CarryingFault.{CarryingFault}
 use Rattle.mm_honest_worlds.specs.declared.carrying.CarryingFault.TheVariants.{Keeping, Moving, NoRoom}
@@ -109,18 +109,26 @@ pub record CarryingStages (pass : Pass) (offer : List ℕ) (old new : BothSites)
       ∷ session_at 1 (site_over put old.second) new.second result.second new.second.platform
       ∷ [])
 
--- It is a world's life. Where it begins as a world does, over the store of a first start and
--- another one, both honest and showing their slots, and neither fails in a session: it is gone on
--- with, or gives evidence.
+-- It begins as a world does; and in Opt the second platform tells its register.
+abbrev pub CarryingBegins : Variant → Meaning → Link → BothSites → Type 0
+CarryingBegins Basic meaning link old =
+    IsWorldAtStart Basic meaning link (two_platforms old.first.platform old.second.platform)
+CarryingBegins Opt meaning link old =
+    IsOptWorldAtStart meaning link (two_platforms old.first.platform old.second.platform)
+    × IsSome old.second.platform.items
+
+-- It is a world's life. Where it begins so, over the store of a first start and another one, both
+-- honest and showing their slots, and neither fails in a session: it is gone on with, or gives
+-- evidence.
 pub record CarriesOver (variant : Variant) (meaning : Meaning) (link : Link) (pass : Pass)
     (offer : List ℕ) (old new : BothSites) (result : Carried) : Type 0 where
   pub made : CarryingStages pass offer old new result
+  pub checked : CheckpointGoes variant made.served made.shut result.closed
   pub leads : IsWorldLife variant meaning link
       (two_platforms old.first.platform old.second.platform) made.stages
   pub goes : (let world = two_platforms old.first.platform old.second.platform in
       let kept = old.first.program.kept in
-      (slots : Slots) → WorldBegins variant meaning link world made.stages →
-      kept.is_honest ≡ true →
+      (slots : Slots) → CarryingBegins variant meaning link old → kept.is_honest ≡ true →
       kept.slots ≡ Some (first_slots (instance_of variant meaning link (world 0))) →
       old.second.program.kept.is_honest ≡ true → old.second.program.kept.slots ≡ Some slots →
       KeepsStore result.first → KeepsStore result.second →
@@ -149,6 +157,7 @@ pub record CarryingStops (variant : Variant) (meaning : Meaning) (link : Link) (
   pub served : Standing
   pub closed : Option (Result Checkpointed CheckpointRefusal)
   pub shut : Standing
+  pub checked : CheckpointGoes variant served shut closed
   pub invited : Result Invited MoveRefusal
   pub waiting : Standing
   pub given : Result (List ℕ) MoveRefusal
