@@ -18,6 +18,7 @@ use Rattle.mm_host.specs.declared.fault.SessionFault.{SessionFault}
 use Rattle.mm_life.specs.Deeds.{Deed, DeedLeads, Extends, LosesPower, CyclesAreDeeds, ReadsAreDeeds}
 use Rattle.mm_life.specs.Deeds as deeds
 use Rattle.mm_killed.specs.DeviceCalls.{AnyProgramStops}
+use Rattle.mm_killed.proofs.Above.{nothing_beside}
 use Rattle.mm_life.specs.Stages.{KilledStartsLeave, devices_at, Does, IsLife, LifePart, LifeStage, PartLeads, end_of, program_standing}
 use Rattle.mm_life.specs.Stages.{session_stage}
 use Rattle.mm_life.specs.Premises.{IsNoCall}
@@ -36,7 +37,7 @@ use Rattle.mm_opt.specs.declared.segment.CheckpointRefusal.TheVariants.{Device}
 use Rattle.mm_opt.specs.declared.segment.Checkpointed.{Checkpointed}
 use Rattle.mm_opt.specs.declared.segment.Segment.{Segment}
 use Rattle.mm_opt.specs.declared.segment.Segment.TheVariants.{Open, Shut}
-use Rattle.mm_platform.specs.Standing.{Item, Standing, items_beside}
+use Rattle.mm_platform.specs.Standing.{Standing}
 use Rattle.mm_platform.specs.declared.fault.StepFault.{StepFault}
 use Rattle.mm_platform.specs.declared.fault.StepFault.TheVariants.{Off}
 use Rattle.mm_recovery.specs.FirstStart.{InstanceBegins, InitLeaves, GoesAfterLooking, Devices, LooksAtCell, devices}
@@ -68,13 +69,6 @@ life_behind : (variant : Variant) (meaning : Meaning) (here later : List LifeSta
     → IsLife variant meaning start here → IsLife variant meaning middle later → IsLife variant meaning start (here ++ later)
 life_behind variant meaning here later start middle ends f g =
     life_append variant meaning here later start f (subst (λ (x : Standing). IsLife variant meaning x later) (sym ends) g)
-
-pub nothing_beside : (items : Option (List Item)) → items ≡ items_beside [] items
-nothing_beside None = refl
-nothing_beside (Some xs) = ap (λ (x : List Item). Some x) (sym (append-nil xs))
-
-behind_met : (met here later : List LifeStage) → met ++ (here ++ later) ≡ met ++ (here ++ later)
-behind_met met here later = refl
 
 -- what is met: deeds in which no call is made, over a cell that stays
 met_leads : (variant : Variant) (meaning : Meaning) (old : Standing) (part : LifePart) (new : Standing) → IsMet old part new
@@ -393,7 +387,7 @@ module _ (reads : ReadsAreDeeds) (cycles : CyclesAreDeeds) (kills : Kills)
         stages = r.met ++ (one.here ++ rest.stages);
         life = life_behind variant M r.met (one.here ++ rest.stages) start r.old.standing ends life
             (life_behind variant M one.here rest.stages r.old.standing r.new.standing one.ends one.life rest.life);
-        stages_of = (one.here, rest.stages, behind_met r.met one.here rest.stages, one.stages_of, rest.stages_of);
+        stages_of = (one.here, rest.stages, refl, one.stages_of, rest.stages_of);
       }
 
 pub commands_are_life : ReadsAreDeeds → CyclesAreDeeds → Kills → CommandsAreLife

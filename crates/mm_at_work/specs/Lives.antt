@@ -36,6 +36,7 @@ use Rattle.mm_life.specs.Stages.{IsOneWhole, Does, IsLife, LifeStage, part_calls
 use Rattle.mm_at_work.specs.Commands.{AreRun, CommandBehind, standing_behind, AreLife}
 use Rattle.mm_at_work.specs.declared.hosts.Verb.{Verb}
 use Rattle.mm_at_work.specs.declared.hosts.Verb.TheVariants.{Run, Checkpoint, Power}
+use Rattle.mm_at_work.specs.declared.lives.LifeObjects.{LifeObjects}
 use Rattle.mm_at_work.specs.Devices.{program_in_memory, two_cells}
 
 -- the objects of such a life: its platform, the copy of the pages, what is left of its entropy and
@@ -48,15 +49,14 @@ pub record MemoryLife : Type 0 where
   pub second : List ℕ
   pub received : List ℕ
 
-abbrev pub memory_life : TwoCell TornMemory → CachedDevice Sheets
-    → (entropy first second received : List ℕ) → MemoryLife
-memory_life platform copy entropy first second received = record {
-  platform = platform;
+abbrev pub memory_life : LifeObjects → CachedDevice Sheets → MemoryLife
+memory_life it copy = record {
+  platform = it.platform;
   copy = copy;
-  entropy = entropy;
-  first = first;
-  second = second;
-  received = received;
+  entropy = it.entropy.left;
+  first = it.first.left;
+  second = it.second.left;
+  received = it.out.received;
 }
 
 -- What a copy of the slots offers first was issued, if it is right.
@@ -89,39 +89,29 @@ second_stage old new b result =
     session_stage (program_in_memory old.copy old.second b.between)
     (program_in_memory new.copy new.second new.received) result (two_cells new.platform)
 
--- Behind a first session of it, where the copy in the pages' place is an old one, a life is one
--- whole, or gives evidence: two different of its messages have one digest, or the digest of one is
--- zero. Nothing else is asked in Basic.
-abbrev pub IsWholeInBasic : (i : Instance) (start : TwoCell TornMemory) (stage : LifeStage)
-    (stages : List LifeStage) (copy : Slots)
-    → IsLife i.variant i.meaning (two_cells start) (stage ∷ stages) → Type 0
-IsWholeInBasic i start stage stages copy f =
-    IsOldCopy i
-    (issued_bytes i first_history
-    ∷ snapshots_of (part_calls i.variant i.meaning (two_cells start) stage.part stage.after f.0))
-    copy →
-    IsOneWhole (life_messages i (two_cells start) (stage ∷ stages) f) []
-    (life_batches i (two_cells start) (stage ∷ stages) f) i
-    (life_snapshots i (two_cells start) (stage ∷ stages) f) (two_cells start) (stage ∷ stages) f
-    ⊎ HasClash i (life_messages i (two_cells start) (stage ∷ stages) f) []
-    (life_batches i (two_cells start) (stage ∷ stages) f)
+module _ (i : Instance) (start : TwoCell TornMemory) (stage : LifeStage) (stages : List LifeStage)
+    (copy : Slots) (f : IsLife i.variant i.meaning (two_cells start) (stage ∷ stages)) where
+  -- Behind a first session of it, where the copy in the pages' place is an old one, a life is one
+  -- whole, or two different of these messages have one digest, the digest of one is zero, or one of
+  -- these values of others is the guard of a request.
+  abbrev pub IsWholeBy : (messages others : List (List ℕ)) → Type 0
+  IsWholeBy messages others =
+      IsOldCopy i
+      (issued_bytes i first_history
+      ∷ snapshots_of (part_calls i.variant i.meaning (two_cells start) stage.part stage.after f.0))
+      copy →
+      IsOneWhole messages others (life_batches i (two_cells start) (stage ∷ stages) f) i
+      (life_snapshots i (two_cells start) (stage ∷ stages) f) (two_cells start) (stage ∷ stages) f
+      ⊎ HasClash i messages others (life_batches i (two_cells start) (stage ∷ stages) f)
 
--- In Opt it is evidence too that a value of others is the guard of a request.
-abbrev pub IsWholeInOpt : (i : Instance) (start : TwoCell TornMemory) (stage : LifeStage)
-    (stages : List LifeStage) (copy : Slots)
-    → IsLife i.variant i.meaning (two_cells start) (stage ∷ stages) → Type 0
-IsWholeInOpt i start stage stages copy f =
-    IsOldCopy i
-    (issued_bytes i first_history
-    ∷ snapshots_of (part_calls i.variant i.meaning (two_cells start) stage.part stage.after f.0))
-    copy →
-    IsOneWhole (opt_messages i (two_cells start) (stage ∷ stages) f)
-    (others_values i (two_cells start) (stage ∷ stages) f)
-    (life_batches i (two_cells start) (stage ∷ stages) f) i
-    (life_snapshots i (two_cells start) (stage ∷ stages) f) (two_cells start) (stage ∷ stages) f
-    ⊎ HasClash i (opt_messages i (two_cells start) (stage ∷ stages) f)
-    (others_values i (two_cells start) (stage ∷ stages) f)
-    (life_batches i (two_cells start) (stage ∷ stages) f)
+  -- in Basic nothing else is asked, and no value is a guard
+  abbrev pub IsWholeInBasic : Type 0
+  IsWholeInBasic = IsWholeBy (life_messages i (two_cells start) (stage ∷ stages) f) []
+
+  abbrev pub IsWholeInOpt : Type 0
+  IsWholeInOpt =
+      IsWholeBy (opt_messages i (two_cells start) (stage ∷ stages) f)
+      (others_values i (two_cells start) (stage ∷ stages) f)
 
 -- The slots of the first start are an old copy, whatever else was issued: so where they are put
 -- back, no premise is left.

@@ -17,6 +17,7 @@ pub use hosts::{
     HandedObjects, Host, MemHandedObjects, Verb, live_under_host, run_rounds, run_verb,
 };
 pub use lives::{
-    Checkpoint, TwoSessions, TwoSessionsFault, live_checkpointed, live_on_copy, live_without_power,
+    Checkpoint, LifeObjects, TwoSessions, TwoSessionsFault, live_checkpointed, live_on_copy,
+    live_without_power,
 };
 pub use sessions::{go_on, serve, serve_copy, start, start_and_serve};

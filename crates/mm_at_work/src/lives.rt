@@ -18,6 +18,16 @@ use mm_recovery::InitFault;
 use mm_twocell::{MemRaw, TwoCell};
 use std::alloc::Global;
 
+/// What such a life is led over, besides the pages.
+#[derive(Drop)]
+pub struct LifeObjects {
+    pub platform: TwoCell<MemRaw>,
+    pub entropy: MemSource,
+    pub first: MemSource,
+    pub second: MemSource,
+    pub out: MemSink,
+}
+
 /// How two sessions ended.
 #[derive(Drop)]
 pub struct TwoSessions {
@@ -46,28 +56,23 @@ pub enum TwoSessionsFault {
 pub fn live_on_copy<M: Module>(
     alloc: Global,
     module: &M,
-    platform: &mut TwoCell<MemRaw>,
+    it: &mut LifeObjects,
     store: &mut PageStore<MemPages>,
-    entropy: &mut MemSource,
     copy: &mut PageStore<MemPages>,
-    first_input: &mut MemSource,
-    second_input: &mut MemSource,
-    out: &mut MemSink,
 ) -> Result<TwoSessions, InitFault>
     ensures { IfOk result (λ both. LivesOnCopy (M.meaning «module».now)
-        (memory_life platform.old copy.old entropy.old.left first_input.old.left
-        second_input.old.left out.old.received)
-        (memory_life platform.new copy.new entropy.new.left first_input.new.left
-        second_input.new.left out.new.received) both.first both.second) }
+        (memory_life it.old copy.old) (memory_life it.new copy.new) both.first both.second) }
 {
     // Laws, which do nothing: the clauses rest on their contracts.
     basic_life_is_one();
     sessions_offer_slots();
-    match start(alloc, Basic, module, platform, store, entropy) {
+    let platform = &mut it.platform;
+    let out = &mut it.out;
+    match start(alloc, Basic, module, platform, store, &mut it.entropy) {
         Err(fault) => Err(fault),
         Ok(()) => {
-            let first = serve(alloc, Basic, module, platform, store, first_input, out);
-            let second = serve(alloc, Basic, module, platform, copy, second_input, out);
+            let first = serve(alloc, Basic, module, platform, store, &mut it.first, out);
+            let second = serve(alloc, Basic, module, platform, copy, &mut it.second, out);
             Ok(TwoSessions { first, second })
         }
     }
@@ -78,32 +83,27 @@ pub fn live_on_copy<M: Module>(
 pub fn live_without_power<M: Module>(
     alloc: Global,
     module: &M,
-    platform: &mut TwoCell<MemRaw>,
+    it: &mut LifeObjects,
     store: &mut PageStore<MemPages>,
-    entropy: &mut MemSource,
     copy: &mut PageStore<MemPages>,
-    first_input: &mut MemSource,
-    second_input: &mut MemSource,
-    out: &mut MemSink,
 ) -> Result<TwoSessions, TwoSessionsFault>
     ensures { IfOk result (λ both. LivesWithoutPower (M.meaning «module».now)
-        (memory_life platform.old copy.old entropy.old.left first_input.old.left
-        second_input.old.left out.old.received)
-        (memory_life platform.new copy.new entropy.new.left first_input.new.left
-        second_input.new.left out.new.received) both.first both.second) }
+        (memory_life it.old copy.old) (memory_life it.new copy.new) both.first both.second) }
 {
     // Laws, which do nothing: the clauses rest on their contracts.
     basic_life_is_one();
     sessions_offer_slots();
     device_calls_are_deeds();
-    match start(alloc, Basic, module, platform, store, entropy) {
+    let platform = &mut it.platform;
+    let out = &mut it.out;
+    match start(alloc, Basic, module, platform, store, &mut it.entropy) {
         Err(fault) => Err(TwoSessionsFault::Starting(fault)),
         Ok(()) => {
-            let first = serve(alloc, Basic, module, platform, store, first_input, out);
+            let first = serve(alloc, Basic, module, platform, store, &mut it.first, out);
             match platform.cycle() {
                 Err(fault) => Err(TwoSessionsFault::LosingPower(fault)),
                 Ok(()) => {
-                    let second = serve(alloc, Basic, module, platform, copy, second_input, out);
+                    let second = serve(alloc, Basic, module, platform, copy, &mut it.second, out);
                     Ok(TwoSessions { first, second })
                 }
             }
@@ -116,30 +116,25 @@ pub fn live_without_power<M: Module>(
 pub fn live_checkpointed<M: Module>(
     alloc: Global,
     module: &M,
-    platform: &mut TwoCell<MemRaw>,
+    it: &mut LifeObjects,
     store: &mut PageStore<MemPages>,
-    entropy: &mut MemSource,
     copy: &mut PageStore<MemPages>,
-    first_input: &mut MemSource,
-    second_input: &mut MemSource,
-    out: &mut MemSink,
 ) -> Result<Checkpoint, InitFault>
     ensures { IfOk result (λ all. LivesCheckpointed (M.meaning «module».now)
-        (memory_life platform.old copy.old entropy.old.left first_input.old.left
-        second_input.old.left out.old.received)
-        (memory_life platform.new copy.new entropy.new.left first_input.new.left
-        second_input.new.left out.new.received) all.sessions.first all.said
+        (memory_life it.old copy.old) (memory_life it.new copy.new) all.sessions.first all.said
         all.sessions.second) }
 {
     // Laws, which do nothing: the clauses rest on their contracts.
     opt_life_is_one();
     sessions_offer_slots();
-    match start(alloc, Opt, module, platform, store, entropy) {
+    let platform = &mut it.platform;
+    let out = &mut it.out;
+    match start(alloc, Opt, module, platform, store, &mut it.entropy) {
         Err(fault) => Err(fault),
         Ok(()) => {
-            let first = serve(alloc, Opt, module, platform, store, first_input, out);
+            let first = serve(alloc, Opt, module, platform, store, &mut it.first, out);
             let said = close_segment(platform);
-            let second = serve(alloc, Opt, module, platform, copy, second_input, out);
+            let second = serve(alloc, Opt, module, platform, copy, &mut it.second, out);
             let sessions = TwoSessions { first, second };
             Ok(Checkpoint { sessions, said })
         }

@@ -2,7 +2,8 @@
 //! once, and repeated over the copy.
 
 use mm_at_work::{
-    go_on, live_checkpointed, live_on_copy, live_without_power, serve_copy, start, start_and_serve,
+    LifeObjects, go_on, live_checkpointed, live_on_copy, live_without_power, serve_copy, start,
+    start_and_serve,
 };
 use mm_base::{MemSink, MemSource};
 use mm_bytes::Memory;
@@ -23,24 +24,14 @@ enum Life {
     Checkpointed,
 }
 
-/// What a life is led over, besides the pages.
-#[derive(Drop)]
-struct Objects {
-    platform: TwoCell<MemRaw>,
-    entropy: MemSource,
-    first: MemSource,
-    second: MemSource,
-    out: MemSink,
-}
-
 const TOLD: &[u8] = b"ok 1 5\nagain 1 5\n";
 
 fn pages(alloc: Global) -> Result<PageStore<MemPages>, Memory> {
     PageStore::new(alloc, MemPages::new(alloc)?)
 }
 
-fn new_objects(alloc: Global) -> Result<Objects, Memory> {
-    Ok(Objects {
+fn new_objects(alloc: Global) -> Result<LifeObjects, Memory> {
+    Ok(LifeObjects {
         entropy: MemSource::new(alloc, &[7; 64], &[])?,
         first: MemSource::new(alloc, b"add 5\n", &[])?,
         second: MemSource::new(alloc, b"add 5\n", &[])?,
@@ -59,21 +50,11 @@ fn variant_of(life: Life) -> Variant {
 // Whether both sessions were held to their ends.
 fn is_straight(
     alloc: Global,
-    it: &mut Objects,
+    it: &mut LifeObjects,
     store: &mut PageStore<MemPages>,
     copy: &mut PageStore<MemPages>,
 ) -> bool {
-    match live_on_copy(
-        alloc,
-        &Counter,
-        &mut it.platform,
-        store,
-        &mut it.entropy,
-        copy,
-        &mut it.first,
-        &mut it.second,
-        &mut it.out,
-    ) {
+    match live_on_copy(alloc, &Counter, it, store, copy) {
         Ok(both) => both.first.is_ok() && both.second.is_ok(),
         Err(_) => false,
     }
@@ -81,21 +62,11 @@ fn is_straight(
 
 fn is_without_power(
     alloc: Global,
-    it: &mut Objects,
+    it: &mut LifeObjects,
     store: &mut PageStore<MemPages>,
     copy: &mut PageStore<MemPages>,
 ) -> bool {
-    match live_without_power(
-        alloc,
-        &Counter,
-        &mut it.platform,
-        store,
-        &mut it.entropy,
-        copy,
-        &mut it.first,
-        &mut it.second,
-        &mut it.out,
-    ) {
+    match live_without_power(alloc, &Counter, it, store, copy) {
         Ok(both) => both.first.is_ok() && both.second.is_ok(),
         Err(_) => false,
     }
@@ -104,21 +75,11 @@ fn is_without_power(
 // The checkpoint between them was made, too.
 fn is_checkpointed(
     alloc: Global,
-    it: &mut Objects,
+    it: &mut LifeObjects,
     store: &mut PageStore<MemPages>,
     copy: &mut PageStore<MemPages>,
 ) -> bool {
-    match live_checkpointed(
-        alloc,
-        &Counter,
-        &mut it.platform,
-        store,
-        &mut it.entropy,
-        copy,
-        &mut it.first,
-        &mut it.second,
-        &mut it.out,
-    ) {
+    match live_checkpointed(alloc, &Counter, it, store, copy) {
         Ok(all) => {
             let is_made = matches!(all.said, Ok(Checkpointed::Done));
             is_made && all.sessions.first.is_ok() && all.sessions.second.is_ok()
@@ -131,7 +92,7 @@ fn is_checkpointed(
 fn is_begun(
     alloc: Global,
     variant: Variant,
-    it: &mut Objects,
+    it: &mut LifeObjects,
     copy: &mut PageStore<MemPages>,
 ) -> bool {
     start(
@@ -157,7 +118,7 @@ fn first_copy(
 fn is_lived(
     alloc: Global,
     life: Life,
-    it: &mut Objects,
+    it: &mut LifeObjects,
     store: &mut PageStore<MemPages>,
     copy: &mut PageStore<MemPages>,
 ) -> bool {
@@ -207,7 +168,7 @@ fn is_repeat(resumed: &Result<Resumed, HostFault>) -> bool {
 }
 
 // Whether a first start and a session went well, and the program goes on by a repeat.
-fn is_gone_on(alloc: Global, it: &mut Objects, store: &mut PageStore<MemPages>) -> bool {
+fn is_gone_on(alloc: Global, it: &mut LifeObjects, store: &mut PageStore<MemPages>) -> bool {
     let served = start_and_serve(
         alloc,
         &Counter,
@@ -224,7 +185,7 @@ fn is_gone_on(alloc: Global, it: &mut Objects, store: &mut PageStore<MemPages>) 
 // Whether a session over the copy went well, too.
 fn is_served(
     alloc: Global,
-    it: &mut Objects,
+    it: &mut LifeObjects,
     store: &mut PageStore<MemPages>,
     copy: PageStore<MemPages>,
 ) -> bool {
@@ -243,7 +204,7 @@ fn is_served(
 
 fn goes_on_over(
     alloc: Global,
-    it: &mut Objects,
+    it: &mut LifeObjects,
     store: &mut PageStore<MemPages>,
 ) -> Result<bool, Memory> {
     let is_well = is_gone_on(alloc, it, store);
@@ -258,7 +219,7 @@ fn begun_copy(alloc: Global) -> Result<PageStore<MemPages>, Memory> {
     }
 }
 
-fn goes_on_with(alloc: Global, it: &mut Objects) -> Result<bool, Memory> {
+fn goes_on_with(alloc: Global, it: &mut LifeObjects) -> Result<bool, Memory> {
     let mut store = pages(alloc)?;
     goes_on_over(alloc, it, &mut store)
 }

@@ -5,10 +5,7 @@ use Rattle.mm_at_work.proofs.lives.live_on_copy.Goals as goal
 pub returns-in-Ok : goal.returns-in-Ok
 returns-in-Ok g c =
     lives_on_copy (g.M.Module.meaning c.args.module.now) (g.met.M.Module.is_lawful c.args.module.now) c.sessions_offer_slots.ensures
-    (memory_life c.args.platform.now c.args.copy.now c.args.entropy.now.left c.args.first_input.now.left c.args.second_input.now.left
-    c.args.out.now.received)
-    (memory_life c.serve-second.new.platform c.serve-second.new.store c.start.new.entropy.left c.serve-first.new.input.left
-    c.serve-second.new.input.left c.serve-second.new.out.received)
+    (memory_life c.args.it.now c.args.copy.now) _
     c.start.new.platform c.serve-first.new.platform c.start.new.store c.serve-first.new.store c.serve-first.new.out.received
     c.serve-first.result c.serve-second.result
     c.basic_life_is_one.ensures c.in-Ok.ensures.starts (c.serve-first.ensures.sessions, (c.serve-second.ensures.sessions, tt))
