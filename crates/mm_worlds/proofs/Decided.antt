@@ -24,7 +24,9 @@ use Rattle.mm_move.specs.Cells.{moved_cell_of, MovePromise}
 use Rattle.mm_move.specs.Orders.{right_ticket, acceptance_in, invitation_in, retirement_in, waiting_for}
 use Rattle.mm_move.specs.Tickets.{TicketContent}
 use Rattle.mm_move.specs.declared.link.Link.{Link}
+use Rattle.mm_move.specs.declared.inviting.Invited.{Invited}
 use Rattle.mm_move.specs.declared.refusal.MoveRefusal.{MoveRefusal}
+use Rattle.mm_host.specs.declared.fault.SessionFault.{SessionFault}
 use Rattle.mm_schedule.specs.Replies.{RunsKeepPromises, tellings_in}
 use Rattle.mm_schedule.specs.declared.reply.Reply.{Reply}
 use Rattle.mm_outcome.proofs.Above.{said_of}
@@ -34,7 +36,7 @@ use Rattle.mm_life.specs.Premises.{IsUntagged}
 use Rattle.mm_life.specs.Stages.{session_on}
 use Rattle.mm_life.proofs.Above.{Ran, ran_none, ran_part, ran_same}
 use Rattle.mm_worlds.specs.declared.crossing.Crossing.{Crossing}
-use Rattle.mm_worlds.specs.Journey.{CrossesOver, SiteStanding, accepted_at, both_sites, invited_at, retired_at, session_at, two_platforms}
+use Rattle.mm_worlds.specs.Journey.{CrossesOver, CrossingStops, SiteStanding, accepted_at, both_sites, invited_at, retired_at, session_at, two_platforms}
 use Rattle.mm_worlds.specs.OneWorld.{HasWorldBreach, IsWorldBreach, forged_offer, forged_ticket, nonce_twice, BasicWorldIsOne}
 use Rattle.mm_worlds.specs.OneWorld.{EvidenceIsNoPremise, OptEvidenceIsNoPremise, OptWorldIsOne, OptWorldIsOneOrEvidence}
 use Rattle.mm_worlds.specs.OneWorld.{WorldIsOneOrEvidence, opt_world_messages, world_batches, world_values, WorldsKeepPromises}
@@ -251,6 +253,37 @@ module _ (law : WorldIsOneOrEvidence) (meaning : Meaning) (lawful : IsLawful mea
       ),
     ),
   )
+
+-- where the retirement was refused
+pub stops : (meaning : Meaning) (link : Link) (nonce key offer : List ℕ) → length nonce ≡ 32 → length key ≡ 32
+    → (first first' second : SiteStanding) (invited : Result Invited MoveRefusal) (refusal : MoveRefusal)
+    (end : Result Unit SessionFault) (served after : Standing) (id : ℕ) → id ≡ meaning.id
+    → IsSession Basic meaning (session_on first.platform first.program) (session_on served first'.program) end
+    → MovePromise (λ bytes. invitation_in (waiting_for link Basic id nonce key) (moved_cell_of bytes)) second.platform after invited
+    → MovePromise (λ bytes. retirement_in meaning Basic link nonce offer (moved_cell_of bytes)) served first'.platform (Err refusal)
+    → CrossingStops meaning link nonce key offer (both_sites first second)
+    (both_sites first' (record { platform = after; program = second.program })) refusal
+stops meaning link nonce key offer long_nonce long_key first first' second invited refusal end served after id own one invites retires =
+    record {
+      first = end;
+      served = served;
+      invited = invited;
+      stages = _;
+      are = refl;
+      leads = (
+        one,
+        (
+          (
+            long_nonce,
+            long_key,
+            subst (λ (n : ℕ). MovePromise (λ (bytes : List ℕ). invitation_in (waiting_for link Basic n nonce key) (moved_cell_of bytes))
+                second.platform after invited) own invites,
+          ),
+          ((long_nonce, retires), tt),
+        ),
+      );
+      stays = refl;
+    }
 
 -- What is told on all platforms together is told in one run of the machine.
 

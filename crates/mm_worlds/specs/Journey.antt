@@ -100,6 +100,30 @@ pub record CrossesOver (meaning : Meaning) (link : Link) (nonce key offer : List
       IsOneWorld Basic meaning link begun world made.stages leads
       ⊎ HasWorldEvidence Basic meaning link begun world made.stages leads)
 
+-- Where the retirement was refused the stages so far are a world's life, and the second platform was
+-- invited alone: the objects of the program there are as they were.
+pub record CrossingStops (meaning : Meaning) (link : Link) (nonce key offer : List ℕ)
+    (old new : BothSites) (refusal : MoveRefusal) : Type 0 where
+  pub first : Result Unit SessionFault
+  pub served : Standing
+  pub invited : Result Invited MoveRefusal
+  pub stages : List WorldStage
+  pub are : stages ≡
+      session_at 0 old.first new.first first served
+      ∷ invited_at 1 nonce key invited new.second.platform
+      ∷ retired_at 0 nonce offer (Err refusal) new.first.platform
+      ∷ []
+  pub leads : IsWorldLife Basic meaning link
+      (two_platforms old.first.platform old.second.platform) stages
+  pub stays : new.second.program ≡ old.second.program
+
+abbrev pub CrossesOrStops : Meaning → Link → (nonce key offer : List ℕ) → (old new : BothSites)
+    → Result Crossing MoveRefusal → Type 0
+CrossesOrStops meaning link nonce key offer old new (Ok crossing) =
+    CrossesOver meaning link nonce key offer old new crossing
+CrossesOrStops meaning link nonce key offer old new (Err refusal) =
+    CrossingStops meaning link nonce key offer old new refusal
+
 -- A module that goes from a first platform to a second, on to a third, and back to the first, with
 -- a call on each: the world that this is.
 

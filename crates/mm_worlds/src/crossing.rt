@@ -1,8 +1,7 @@
 //! A caller: a module of Basic that crosses from one platform to another, with a session on either
 //! side.
 
-ghost use Rattle.std.specs.Prelude.{IfOk};
-ghost use Rattle.mm_worlds.specs.Journey.{CrossesOver, both_sites, site_standing};
+ghost use Rattle.mm_worlds.specs.Journey.{CrossesOrStops, both_sites, site_standing};
 
 use crate::laws::world_is_one_or_evidence;
 use mm_base::{Sink, Source};
@@ -24,8 +23,8 @@ pub struct Crossing {
 }
 
 /// A session on the first platform; the second one is invited; the first one is retired with this
-/// offer, and unless that is refused its ticket is accepted on the second, and a session is held
-/// there, over whatever is in its slots.
+/// offer, and unless that is refused, which is answered, its ticket is accepted on the second, and
+/// a session is held there, over whatever is in its slots.
 pub fn cross_over<
     M: Module,
     P: Platform,
@@ -52,8 +51,7 @@ pub fn cross_over<
     second_input: &mut R,
     second_out: &mut L,
 ) -> Result<Crossing, MoveRefusal>
-    ensures { IfOk result (λ crossing. CrossesOver (M.meaning «module».now) link.now nonce.now
-        key.now offer.now
+    ensures { CrossesOrStops (M.meaning «module».now) link.now nonce.now key.now offer.now
         (both_sites
         (site_standing (P.standing first.old) (T.kept first_store.old) (S.left first_input.old)
         (K.received first_out.old))
@@ -63,7 +61,7 @@ pub fn cross_over<
         (site_standing (P.standing first.new) (T.kept first_store.new) (S.left first_input.new)
         (K.received first_out.new))
         (site_standing (Q.standing second.new) (U.kept second_store.new) (R.left second_input.new)
-        (L.received second_out.new))) crossing) }
+        (L.received second_out.new))) result }
 {
     // A law, which does nothing: the clause rests on its contract.
     world_is_one_or_evidence();
