@@ -100,8 +100,8 @@ pub record CrossesOver (meaning : Meaning) (link : Link) (nonce key offer : List
       IsOneWorld Basic meaning link begun world made.stages leads
       ⊎ HasWorldEvidence Basic meaning link begun world made.stages leads)
 
--- Where the retirement was refused the stages so far are a world's life, and the second platform was
--- invited alone: the objects of the program there are as they were.
+-- Where the retirement was refused the stages so far are a world's life, and the second platform
+-- was invited alone: the objects of the program there are as they were.
 pub record CrossingStops (meaning : Meaning) (link : Link) (nonce key offer : List ℕ)
     (old new : BothSites) (refusal : MoveRefusal) : Type 0 where
   pub first : Result Unit SessionFault
