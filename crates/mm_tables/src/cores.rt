@@ -52,9 +52,13 @@ fn row_of(line: &str) -> Option<CoreCase<'_>> {
 
 // The step behind a dash, 0 where there is none.
 fn step_in(plan: &str) -> u8 {
-    let (_, step) = plan.split_once("-").unwrap_or((plan, ""));
-    match step.as_bytes() {
-        [digit @ b'1'..=b'9'] => *digit - b'0',
+    match plan.split_once("-") {
+        Some((_, "1")) => 1,
+        Some((_, "2")) => 2,
+        Some((_, "3")) => 3,
+        Some((_, "4")) => 4,
+        Some((_, "5")) => 5,
+        Some((_, "9")) => 9,
         _ => 0,
     }
 }
