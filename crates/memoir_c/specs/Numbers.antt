@@ -81,6 +81,10 @@ pub record RoomState : Type 0 where
   pub old : ℕ
   pub new : ℕ
 
+abbrev pub room_state : (before after : List ℕ) (old new : ℕ) → RoomState
+room_state before after old new =
+    record { before = before; after = after; old = old; new = new }
+
 -- nothing is written
 abbrev pub IsUnchanged : RoomState → Type 0
 IsUnchanged it = (it.after ≡ it.before) × (it.new ≡ it.old)

@@ -106,6 +106,10 @@ pub record ProvisionMemory : Type 0 where
   pub before : List ℕ
   pub after : List ℕ
 
+abbrev pub memory_state : (old new : ProvisionReply) (before after : List ℕ) → ProvisionMemory
+memory_state old new before after =
+    record { old = old; new = new; before = before; after = after }
+
 abbrev pub IsUnwritten : ProvisionMemory → Type 0
 IsUnwritten it = (it.after ≡ it.before) × (it.new ≡ it.old)
 

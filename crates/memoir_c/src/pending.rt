@@ -4,7 +4,7 @@ ghost use Rattle.std.specs.Prelude.{◌≡◌, ◌≢◌, ◌≤◌, ◌+◌, If
 ghost use Rattle.mm_bytes.specs.Limits.{longest_request};
 ghost use Rattle.std.specs.Option.{option_map};
 ghost use Rattle.mm_store.specs.PendingRecord.{ReadsPendingRecord, pending_spelling, pending_of};
-ghost use Rattle.memoir_c.specs.Numbers.{number_of, HasNoRecord, PutsInFront, ReadsRecordOrNone, ReadsBack, RecordsRequest};
+ghost use Rattle.memoir_c.specs.Numbers.{number_of, HasNoRecord, PutsInFront, ReadsRecordOrNone, ReadsBack, RecordsRequest, room_state};
 
 use crate::said::ReturnStatus;
 use mm_bytes::{Bytes, LAST_POSITION};
@@ -23,12 +23,8 @@ pub extern "C" fn memoir_pending(
     length: &mut usize,
     room: &mut [u8],
 ) -> u32
-    ensures records { RecordsRequest position request.now (record {
-      before = room.old;
-      after = room.new;
-      old = length.old;
-      new = length.new;
-    }) result }
+    ensures records { RecordsRequest position request.now
+        (room_state room.old room.new length.old length.new) result }
     ensures unwritten { result ≢ 0 → room.new ≡ room.old }
     ensures unsaid { result ≢ 0 → length.new ≡ length.old }
     ensures enough { 48 + list_length request.now ≤ list_length room.old → result ≢ 36 }
@@ -43,12 +39,8 @@ fn put_record(
     length: &mut usize,
     room: &mut [u8],
 ) -> ReturnStatus
-    ensures records { RecordsRequest position request.now (record {
-      before = room.old;
-      after = room.new;
-      old = length.old;
-      new = length.new;
-    }) (number_of result) }
+    ensures records { RecordsRequest position request.now
+        (room_state room.old room.new length.old length.new) (number_of result) }
     ensures unwritten { result ≢ ReturnStatus.Done → room.new ≡ room.old }
     ensures unsaid { result ≢ ReturnStatus.Done → length.new ≡ length.old }
 {
@@ -78,12 +70,8 @@ fn record(alloc: Global, position: u64, request: &[u8]) -> Result<Bytes, ReturnS
 
 /// Writes these bytes and their length, where there is room.
 pub fn put(bytes: &[u8], length: &mut usize, room: &mut [u8]) -> ReturnStatus
-    ensures puts { PutsInFront bytes.now (record {
-      before = room.old;
-      after = room.new;
-      old = length.old;
-      new = length.new;
-    }) result }
+    ensures puts { PutsInFront bytes.now
+        (room_state room.old room.new length.old length.new) result }
     ensures unwritten { result ≢ ReturnStatus.Done → room.new ≡ room.old }
     ensures unsaid { result ≢ ReturnStatus.Done → length.new ≡ length.old }
 {
@@ -105,12 +93,8 @@ pub extern "C" fn memoir_read_pending(
     length: &mut usize,
     room: &mut [u8],
 ) -> u32
-    ensures reads { ReadsBack slot bytes.now (record {
-      before = room.old;
-      after = room.new;
-      old = length.old;
-      new = length.new;
-    }) position.new result }
+    ensures reads { ReadsBack slot bytes.now
+        (room_state room.old room.new length.old length.new) position.new result }
     ensures unwritten { result ≢ 0 → room.new ≡ room.old }
     ensures unsaid { result ≢ 0 → length.new ≡ length.old }
     ensures unnumbered { result ≢ 0 → position.new ≡ position.old }
@@ -126,12 +110,8 @@ fn put_request(
     length: &mut usize,
     room: &mut [u8],
 ) -> ReturnStatus
-    ensures reads { ReadsRecordOrNone slot bytes.now (record {
-      before = room.old;
-      after = room.new;
-      old = length.old;
-      new = length.new;
-    }) position.new result }
+    ensures reads { ReadsRecordOrNone slot bytes.now
+        (room_state room.old room.new length.old length.new) position.new result }
     ensures unwritten { result ≢ ReturnStatus.Done → room.new ≡ room.old }
     ensures unsaid { result ≢ ReturnStatus.Done → length.new ≡ length.old }
     ensures unnumbered { result ≢ ReturnStatus.Done → position.new ≡ position.old }

@@ -1,7 +1,7 @@
 //! The first cell and snapshot of an instance.
 
 ghost use Rattle.std.specs.Prelude.{◌≡◌, ◌≢◌, ◌≤◌, IfErr, IfOk, length};
-ghost use Rattle.memoir_c.specs.PlainAnswers.{room_with, IsMeant, IsUnmade, ProvisionsInstance, PutsFirst, first_cell, first_snapshot};
+ghost use Rattle.memoir_c.specs.PlainAnswers.{room_with, IsMeant, IsUnmade, ProvisionsInstance, PutsFirst, first_cell, first_snapshot, memory_state};
 ghost use Rattle.mm_modules.specs.Modules.{meaning_of};
 ghost use Rattle.mm_model.specs.Chains as model;
 ghost use Rattle.mm_call.specs.Standing.{instance_by};
@@ -42,12 +42,8 @@ pub extern "C" fn memoir_provision(
     first: &mut ProvisionReply,
     room: &mut [u8],
 ) -> u32
-    ensures provisions { ProvisionsInstance instance.now keys.now (record {
-      old = first.old;
-      new = first.new;
-      before = room.old;
-      after = room.new;
-    }) result }
+    ensures provisions { ProvisionsInstance instance.now keys.now
+        (memory_state first.old first.new room.old room.new) result }
     ensures unwritten { result ≢ 0 → room.new ≡ room.old }
     ensures unsaid { result ≢ 0 → first.new ≡ first.old }
     ensures enough { room_with instance.now.«module» ≤ length room.old → result ≢ 36 }
@@ -62,12 +58,8 @@ fn put_instance(
     first: &mut ProvisionReply,
     room: &mut [u8],
 ) -> ReturnStatus
-    ensures provisions { ProvisionsInstance instance.now keys.now (record {
-      old = first.old;
-      new = first.new;
-      before = room.old;
-      after = room.new;
-    }) (number_of result) }
+    ensures provisions { ProvisionsInstance instance.now keys.now
+        (memory_state first.old first.new room.old room.new) (number_of result) }
     ensures unwritten { result ≢ ReturnStatus.Done → room.new ≡ room.old }
     ensures unsaid { result ≢ ReturnStatus.Done → first.new ≡ first.old }
 {
@@ -105,12 +97,8 @@ fn first(alloc: Global, variant: Variant, module: &AnyModule, keys: &Keys) -> Re
 }
 
 fn put(made: &Made, first: &mut ProvisionReply, room: &mut [u8]) -> ReturnStatus
-    ensures puts { PutsFirst made.now.cell made.now.snapshot (record {
-      old = first.old;
-      new = first.new;
-      before = room.old;
-      after = room.new;
-    }) result }
+    ensures puts { PutsFirst made.now.cell made.now.snapshot
+        (memory_state first.old first.new room.old room.new) result }
     ensures unwritten { result ≢ ReturnStatus.Done → room.new ≡ room.old }
     ensures unsaid { result ≢ ReturnStatus.Done → first.new ≡ first.old }
 {
